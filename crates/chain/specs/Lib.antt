@@ -1,0 +1,4 @@
+pub mod Digits
+pub mod Flip
+pub mod Ratios
+pub mod Corners

@@ -1,0 +1,5 @@
+pub mod Pick
+pub mod Lowest
+pub mod Refusals
+pub mod Answering
+pub mod Harmonic

@@ -1,0 +1,55 @@
+-- WHAT VALIDATION COMPUTES. The lines of specs/Table as tests, in the same order.
+--     badPeriod, badLength, unchained, late     the conditions of 3, 4, 5 and 9 at a place, as tests
+--     findings d Ts ps                          what each of the six checks finds; d is the test of number 1
+--     verdict Ts ps                             the answer of the first that finds something, else done
+--     Validates Ts ps a                         the promise: a is the refusal of the first line that applies, and done where none does
+-- Assumes nothing.
+use mathlib.Core.Path.{_≡_}
+use mathlib.Core.Bool.{Bool, true, false, not}
+use mathlib.Core.List.{List, [], _∷_}
+use Prim.Native.Nat.{ℕ, _%_, _≤_, _<_}
+use lib.Dec.{leb, ltb, eqb}
+use lib.ListN.{length, getD}
+use Rattle.lists.specs.Pick.{pick, both, either, anyBelow}
+use Rattle.lists.specs.Lowest.{lowest}
+use Rattle.lists.specs.Refusals.{First}
+use Rattle.lists.specs.Answering.{Found, found, tested, firstOf}
+use Rattle.words.specs.declared.Answer.{Answer}
+use Rattle.words.specs.Answers.{refused, done}
+use Rattle.table.specs.Table.{mostProbes, mostPeriod, mostRows, shortest, rows, lines, Differ}
+
+-- a divides b
+unfoldable pub divides : ℕ → ℕ → Bool
+divides a b = eqb (b % a) 0
+
+-- of the two periods one divides the other
+unfoldable pub chained : ℕ → ℕ → Bool
+chained a b = either (divides a b) (divides b a)
+
+unfoldable pub badPeriod : List ℕ → ℕ → Bool
+badPeriod Ts i = either (ltb (getD Ts i 0) 1) (ltb mostPeriod (getD Ts i 0))
+
+unfoldable pub badLength : ℕ → List ℕ → ℕ → Bool
+badLength w ps i = either (eqb (getD ps i 0) 0) (ltb w (getD ps i 0))
+
+unfoldable pub unchained : List ℕ → ℕ → Bool
+unchained Ts i = anyBelow (λ j. not (chained (getD Ts i 0) (getD Ts j 0))) i
+
+unfoldable pub late : List ℕ → List ℕ → ℕ → Bool
+late Ts ss i = leb (getD Ts i 0) (getD ss i 0)
+
+unfoldable pub findings : Bool → List ℕ → List ℕ → List Found
+findings differ Ts ps =
+    tested 1 differ
+    ∷ tested 2 (ltb mostProbes (length Ts))
+    ∷ found 3 (length Ts) (lowest (badPeriod Ts) (length Ts))
+    ∷ found 4 (length Ts) (lowest (badLength (shortest Ts) ps) (length Ts))
+    ∷ found 5 (length Ts) (lowest (unchained Ts) (length Ts))
+    ∷ tested 6 (ltb mostRows (rows Ts))
+    ∷ []
+
+unfoldable pub verdict : List ℕ → List ℕ → Answer
+verdict Ts ps = firstOf (findings (not (eqb (length Ts) (length ps))) Ts ps) refused done
+
+unfoldable pub Validates : List ℕ → List ℕ → Answer → Type 0
+Validates Ts ps a = First (lines Ts ps (Differ Ts ps)) refused (λ r. r ≡ done) a
