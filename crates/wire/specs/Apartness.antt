@@ -8,16 +8,15 @@
 -- Edges: starts may be any numbers, also at or past their periods, and widths may pass their periods. A probe of width 0 holds nothing, so only
 -- completeness asks for widths of at least 1.
 -- Assumes nothing.
-use mathlib.Core.Path.{_≡_, refl, sym, ap, _∙_}
+use mathlib.Core.Path.{_≡_, ap, _∙_}
 use mathlib.Core.Logic.{_↔_}
-use Prim.Native.Nat.{ℕ, zero, suc, _+_, _-_, _*_, _%_, _≤_, _<_, _∣_}
+use Prim.Native.Nat.{ℕ, _+_, _-_, _*_, _%_, _≤_, _<_, _∣_}
 use native.Mathlib.Nat.{add-sub-cancel-left, add-zero, le-mul-of-pos-right, le-of-dvd, mod-eq-of-lt, mod-self, mul-add-mod-self-right, pos-of-dvd-of-pos}
 use native.Mathlib.Decide.{decLe}
 use native.Mathlib.Omega.{arith}
-use lib.Dec.{leb}
 use Rattle.lists.specs.Pick.{Tells}
 use Rattle.lists.specs.Telling.{tells-as, tells-both, tells-le}
-use Rattle.wire.specs.Wire.{Holds, NeverMeet}
+use Rattle.wire.specs.Wire.{NeverMeet}
 use Rattle.wire.specs.Meeting.{lag, Apart, apart}
 use Rattle.wire.specs.Lag.{lag-lt, seen}
 

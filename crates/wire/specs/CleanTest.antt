@@ -1,15 +1,16 @@
 -- THE TEST OF A LINE SAYS WHETHER IT IS CLEAN. Document 01, "The line and its words" (clean), "Meeting on the wire" and number 10.
 --     NeverMeetAt Ts qs ss i j   probes i and j of the line share no tick
+--     FirstSharedAt .. i j t     t is the first tick that they share
 --     clean-pairs                clean is: no two probes i < j ever meet
 --     apart-at-tells             the test of a pair says whether the two never meet
 --     clean-tells                the test of every pair says whether the line is clean
 --     tick-at-first              of a pair that fails the test, tickAt is the first shared tick
---     tick-at-bound              it comes at most two less than the longer read after the longer period
+--     tick-at-bound              with the longer period and the longer read it is at most their sum less 2
 --     clean-among-every          clean among all is clean
 --     clean-among-less           a clean line is clean among any of its probes
--- Edges: the empty line is clean and passes. The starts' column may have any length: what is missing reads as 0.
+-- Edges: the empty line is clean and passes. The test asks nothing of the starts; only the tick asks that they lie below their periods.
 -- Assumes nothing.
-use mathlib.Core.Path.{_≡_, refl, sym, ap, _∙_}
+use mathlib.Core.Path.{_≡_, refl}
 use mathlib.Core.Logic.{_↔_}
 use mathlib.Core.Bool.{Bool, true, false}
 use mathlib.Core.List.{List}
@@ -23,8 +24,8 @@ use borrow.Author.Tests.{leb-true, leb-false}
 use Rattle.lists.specs.Pick.{pick, Tells}
 use Rattle.lists.specs.Harmonic.{Harmonic, Positive}
 use Rattle.lists.specs.Telling.{tells-as, tells-both, tells-yes}
-use Rattle.wire.specs.Wire.{NeverMeet, HoldsAt, Clean, CleanAmong}
-use Rattle.wire.specs.Meeting.{Apart, apart, sharedTick, apartAt, tickAt, apartBelow, cleanBelow, clean}
+use Rattle.wire.specs.Wire.{NeverMeet, Clean, CleanAmong}
+use Rattle.wire.specs.Meeting.{apart, sharedTick, apartAt, tickAt, apartBelow, cleanBelow, clean}
 use Rattle.wire.specs.Apartness.{apart-tells, meet-tells, never-meet-swap}
 use Rattle.wire.specs.FirstShared.{FirstShared, first-shared-swap, shared-tick-first, shared-tick-bound}
 
@@ -34,6 +35,7 @@ NeverMeetAt Ts qs ss i j = NeverMeet (getD Ts i 0) (getD qs i 0) (getD ss i 0) (
 abbrev pub FirstSharedAt : List ℕ → List ℕ → List ℕ → ℕ → ℕ → ℕ → Type 0
 FirstSharedAt Ts qs ss i j t = FirstShared (getD Ts i 0) (getD qs i 0) (getD ss i 0) (getD Ts j 0) (getD qs j 0) (getD ss j 0) t
 
+-- below n, and at n
 one-more : (P : ℕ → Type 0) (n : ℕ) → P n → ((k : ℕ) → k < n → P k) → (k : ℕ) → k < suc n → P k
 one-more P n p f k h = by (decLt k n)
   where
@@ -114,7 +116,7 @@ module _ (Ts qs ss : List ℕ) where
     unfolding clean
     clean-tells = tells-as _ (pairs-tell (length Ts) (omega arith)) (clean-pairs .1) (clean-pairs .0)
 
-    -- what is asked of two probes for their tick: both on the line, and starts below their periods
+    -- the tick of two probes, i the one of the shorter period
     module _ (i j : ℕ) (hi : i < length Ts) (hj : j < length Ts) (li : getD ss i 0 < getD Ts i 0) (lj : getD ss j 0 < getD Ts j 0) where
       tick-first : getD Ts i 0 ≤ getD Ts j 0 → test i j ≡ false → FirstSharedAt Ts qs ss i j (tick i j)
       tick-first l e =

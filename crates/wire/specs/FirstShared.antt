@@ -3,19 +3,16 @@
 --     first-shared-unique         there is one at most
 --     first-shared-swap           which of the two is named first does not matter
 --     shared-tick-first           of two that are not apart, the four cases of sharedTick give it
---     shared-tick-bound           it comes at most max q r - 2 ticks after one longer period
+--     shared-tick-bound           it is at most U + max q r - 2
 -- Edges: only the shorter one's start must lie below its period; for the bound the other's too. Widths may pass their periods.
 -- Not said here: which of two periods is the shorter (CleanTest).
 -- Assumes nothing.
-use mathlib.Core.Path.{_≡_, refl, sym, ap, _∙_}
-use mathlib.Core.Bool.{Bool, true, false}
-use Prim.Native.Nat.{ℕ, zero, suc, _+_, _-_, _%_, _≤_, _<_, _∣_, max}
+use mathlib.Core.Path.{_≡_, ap, _∙_}
+use Prim.Native.Nat.{ℕ, _+_, _-_, _%_, _≤_, _<_, _∣_, max}
 use native.Mathlib.Nat.{add-sub-cancel-left, add-zero, le-of-dvd, mod-eq-of-lt, mod-le, mod-self, sub-self, zero-mod}
 use native.Mathlib.Decide.{decLe, decLt}
 use native.Mathlib.Omega.{arith}
-use lib.Dec.{leb, ltb}
 use borrow.Author.Tests.{le-leb, le-ltb, lt-leb, lt-ltb}
-use Rattle.lists.specs.Pick.{pick}
 use Rattle.wire.specs.Wire.{Holds}
 use Rattle.wire.specs.Meeting.{lag, Apart, sharedTick}
 use Rattle.wire.specs.Lag.{lag-lt, lag-after, lag-below, seen}
@@ -30,8 +27,8 @@ first-shared-swap T q s U r u t f = record { one = f .other; other = f .one; non
 
 pub first-shared-unique : (T q s U r u x y : ℕ) → FirstShared T q s U r u x → FirstShared T q s U r u y → x ≡ y
 first-shared-unique T q s U r u x y f g =
-    let a : ¬ (x < y) = λ h. g .none-before x h (f .one) (f .other) in
-    let b : ¬ (y < x) = λ h. f .none-before y h (g .one) (g .other) in
+    let a : ¬ (x < y) = λ h. g .none-before x (omega arith) (f .one) (f .other) in
+    let b : ¬ (y < x) = λ h. f .none-before y (omega arith) (g .one) (g .other) in
     omega arith
 
 module _ (T q s U r u : ℕ) where
@@ -93,12 +90,12 @@ module _ (T q s U r u : ℕ) where
         }
       where
         earlier : (x : ℕ) → x < u + (T - lag T s u) → Holds T q s x → Holds U r u x → ⊥
-        earlier x i (a, b) (a′, b′) =
+        earlier x i (a, b) (c, j) =
             let below = lag-lt T s u (omega arith) in
             let within = le-of-dvd h d in
             let f : (x - u) % U ≡ x - u = mod-eq-of-lt (omega arith) in
             let g : (lag T s u + (x - u)) % T ≡ lag T s u + (x - u) = mod-eq-of-lt (omega arith) in
-            let w : (x - s) % T ≡ (lag T s u + (x - u) % U) % T = seen T s U u x d (omega arith) a a′ in
+            let w : (x - s) % T ≡ (lag T s u + (x - u) % U) % T = seen T s U u x d (omega arith) a c in
             let v : (x - s) % T ≡ (lag T s u + (x - u)) % T = rw f at w in
             omega arith
 
@@ -123,7 +120,7 @@ module _ (T q s U r u : ℕ) where
         }
       where
         earlier : (x : ℕ) → x < u + U → Holds T q s x → Holds U r u x → ⊥
-        earlier x i (a, b) (a′, b′) =
+        earlier x i (a, b) (c, j) =
             let f : (x - u) % U ≡ x - u = mod-eq-of-lt (omega arith) in
             omega arith
 
@@ -155,8 +152,11 @@ module _ (T q s U r u : ℕ) where
       pub shared-tick-bound : u < U → sharedTick T q s U r u + 2 ≤ U + max q r
       shared-tick-bound lu =
           let within = le-of-dvd h d in
-          shared-cases (λ t. t + 2 ≤ U + max q r)
-          (λ l k. omega arith)
-          (λ l k. omega (arith, overrun k))
-          (λ l k. omega arith)
-          (λ l k. omega (arith, inside l k, behind l))
+          omega (
+            arith,
+            shared-cases (λ t. t + 2 ≤ U + max q r)
+                (λ l k. omega arith)
+                (λ l k. omega (arith, overrun k))
+                (λ l k. omega arith)
+                (λ l k. omega (arith, inside l k, behind l)),
+          )

@@ -4,20 +4,21 @@
 --     lag-back        o added back gives s, around the period
 --     lag-unique      and no other number below the period does: so lag is "the remainder of s - o by T, from 0 up"
 --     lag-after       from o on it is the plain remainder of t - o
+--     lag-zero        moved by nothing, a start below its period stays
 --     lag-add         x later it is x more, around the period
 --     seen            a tick, seen from the start s by T: as far into the other's turn as it is, plus their lag
 --     lag-moved       two starts that are moved alike keep their lag
 -- Edges: o and s may be any numbers; only T = 0 is shut out.
 -- Assumes nothing.
-use mathlib.Core.Path.{_≡_, refl, sym, ap, _∙_}
-use Prim.Native.Nat.{ℕ, zero, suc, _+_, _-_, _*_, _/_, _%_, _≤_, _<_, _∣_}
+use mathlib.Core.Path.{_≡_, sym, ap, _∙_}
+use Prim.Native.Nat.{ℕ, suc, _+_, _-_, _*_, _/_, _%_, _≤_, _<_, _∣_}
 use native.Mathlib.Nat.{add-mod-mod, add-mul-mod-self-right, add-sub-of-le, div-add-mod', mod-add-mod, mod-eq-of-lt, mod-lt, mod-mod-of-dvd, pos-of-dvd-of-pos}
 use native.Mathlib.Omega.{arith}
 use Rattle.wire.specs.Meeting.{lag}
 
 pub lag-lt : (T o s : ℕ) → 0 < T → lag T o s < T
 unfolding lag
-lag-lt T o s h = mod-lt (s + (T - o % T)) h
+lag-lt T o s h = mod-lt _ h
 
 pub lag-below : (T o s : ℕ) → o < T → lag T o s ≡ (s + T - o) % T
 unfolding lag
@@ -57,6 +58,11 @@ lag-after T o t h l = ap (λ (y : ℕ). (y + (T - o % T)) % T) back ∙ whole-tu
   where
     back : t ≡ t - o + o
     back = omega arith
+
+pub lag-zero : (T s : ℕ) → s < T → lag T 0 s ≡ s
+lag-zero T s h =
+    let e : s - 0 ≡ s = omega arith in
+    lag-after T 0 s (omega arith) (omega arith) ∙ rw e (mod-eq-of-lt h)
 
 pub lag-add : (T o s x : ℕ) → lag T o (s + x) ≡ (lag T o s + x) % T
 unfolding lag

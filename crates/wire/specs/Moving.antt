@@ -1,5 +1,6 @@
 -- THE MOVE TO o KEEPS A LINE CLEAN. Document 01, the packing verdict: "let o be the start .., replace each s by the remainder of s - o by T".
 --     length-moved, moved-at   the moved list, place by place
+--     moved-lt                 each moved start lies below its period
 --     apart-moved              a pair that is moved alike passes the test as before
 --     clean-test-moved         so does the line
 --     clean-moved              and it is clean exactly when it was
@@ -9,18 +10,18 @@ use mathlib.Core.Path.{_≡_, refl, sym, ap, _∙_}
 use mathlib.Core.Logic.{_↔_}
 use mathlib.Core.Bool.{Bool, true, false}
 use mathlib.Core.List.{List, [], _∷_}
-use Prim.Native.Nat.{ℕ, zero, suc, _+_, _≤_, _<_, _∣_}
+use Prim.Native.Nat.{ℕ, zero, suc, _≤_, _<_, _∣_}
 use native.Mathlib.Nat.{le-of-lt, suc-inj}
 use native.Mathlib.Omega.{arith}
 use lib.Dec.{leb}
 use lib.ListN.{length, getD}
 use borrow.Author.Tests.{leb-true, leb-false}
-use Rattle.lists.specs.Pick.{pick, both, Tells}
+use Rattle.lists.specs.Pick.{pick, Tells}
 use Rattle.lists.specs.Harmonic.{Harmonic, Positive}
 use Rattle.lists.specs.Telling.{tells-true}
 use Rattle.wire.specs.Wire.{Clean}
 use Rattle.wire.specs.Meeting.{lag, apart, apartAt, apartBelow, cleanBelow, clean, moved}
-use Rattle.wire.specs.Lag.{lag-moved}
+use Rattle.wire.specs.Lag.{lag-lt, lag-moved}
 use Rattle.wire.specs.CleanTest.{clean-tells}
 
 pub length-moved : (o : ℕ) (Ts ss : List ℕ) → length Ts ≡ length ss → length (moved o Ts ss) ≡ length ss
@@ -36,6 +37,9 @@ moved-at o [] ss i h k = absurd (omega arith)
 moved-at o (T ∷ Ts) [] i h k = absurd (omega arith)
 moved-at o (T ∷ Ts) (s ∷ ss) zero h k = refl
 moved-at o (T ∷ Ts) (s ∷ ss) (suc i) h k = moved-at o Ts ss i (omega arith) (omega arith)
+
+pub moved-lt : (o : ℕ) (Ts ss : List ℕ) (i : ℕ) → i < length Ts → i < length ss → 0 < getD Ts i 0 → getD (moved o Ts ss) i 0 < getD Ts i 0
+moved-lt o Ts ss i h k p = rw (moved-at o Ts ss i h k) (lag-lt (getD Ts i 0) o (getD ss i 0) p)
 
 pub apart-moved : (T q s U r u o : ℕ) → T ∣ U → 0 < U → apart T q (lag T o s) U r (lag U o u) ≡ apart T q s U r u
 unfolding apart

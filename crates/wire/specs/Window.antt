@@ -6,8 +6,8 @@
 --     window             from any tick at or after the start: of the next T ticks exactly q are the probe's
 --     windows            of the next T * h ticks exactly q * h: so of one longest period M = T * h, "busy" q * h
 --     clean-alone        in a clean line no other probe has any of those
--- Edges: a tick before the start is not held, so a window that begins before it may have fewer; a read may pass the end of the window, and then another
--- one's end stands at its beginning.
+-- Edges: a tick before the start is not held, so a window that begins before it may have fewer. A read may pass the window's end: then as much of an
+-- earlier one stands at its beginning.
 -- Assumes nothing.
 use mathlib.Core.Path.{_≡_, refl, sym, ap, _∙_}
 use mathlib.Core.Logic.{_↔_, _≢_}
@@ -19,7 +19,6 @@ use native.Mathlib.Numerals.{add-one}
 use native.Mathlib.Omega.{arith}
 use lib.Dec.{leb, ltb}
 use lib.ListN.{length}
-use borrow.Author.Tests.{ltb-true, ltb-false}
 use Rattle.lists.specs.Pick.{pick, both, Tells}
 use Rattle.lists.specs.Telling.{tells-both, tells-le, tells-lt, tells-true, tells-false}
 use Rattle.wire.specs.Wire.{Holds, HoldsAt, Clean}
