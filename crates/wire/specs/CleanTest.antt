@@ -2,6 +2,7 @@
 --     NeverMeetAt Ts qs ss i j   probes i and j of the line share no tick
 --     FirstSharedAt .. i j t     t is the first tick that they share
 --     clean-pairs                clean is: no two probes i < j ever meet
+--     apartBy, tickBy .. i j     the test and the tick with d taken by the period of i; at-by-first, at-by-second: the shorter period's are the pair's
 --     apart-at-tells             the test of a pair says whether the two never meet
 --     clean-tells                the test of every pair says whether the line is clean
 --     tick-at-first              of a pair that fails the test, tickAt is the first shared tick
@@ -10,18 +11,17 @@
 --     clean-among-less           a clean line is clean among any of its probes
 -- Edges: the empty line is clean and passes. The test asks nothing of the starts; only the tick asks that they lie below their periods.
 -- Assumes nothing.
-use mathlib.Core.Path.{_≡_, refl}
+use mathlib.Core.Path.{_≡_}
 use mathlib.Core.Logic.{_↔_}
-use mathlib.Core.Bool.{Bool, true, false}
+use mathlib.Core.Bool.{Bool, false}
 use mathlib.Core.List.{List}
 use Prim.Native.Nat.{ℕ, zero, suc, _+_, _≤_, _<_, max}
 use native.Mathlib.Nat.{le-of-lt}
-use native.Mathlib.Decide.{decLt}
+use native.Mathlib.Decide.{decLe, decLt}
 use native.Mathlib.Omega.{arith}
-use lib.Dec.{leb}
 use lib.ListN.{length, getD}
-use borrow.Author.Tests.{leb-true, leb-false}
-use Rattle.lists.specs.Pick.{pick, Tells}
+use borrow.Author.Tests.{le-leb, lt-leb}
+use Rattle.lists.specs.Pick.{Tells}
 use Rattle.lists.specs.Harmonic.{Harmonic, Positive}
 use Rattle.lists.specs.Telling.{tells-as, tells-both, tells-yes}
 use Rattle.wire.specs.Wire.{NeverMeet, Clean, CleanAmong}
@@ -68,33 +68,46 @@ module _ (Ts qs ss : List ℕ) where
   pub clean-among-less : (C : ℕ → Type 0) → Clean Ts qs ss → CleanAmong C Ts qs ss
   clean-among-less C c t i j hi hj x y a b = c t i j hi hj a b
 
-  abbrev test : ℕ → ℕ → Bool
-  test i j = apart (getD Ts i 0) (getD qs i 0) (getD ss i 0) (getD Ts j 0) (getD qs j 0) (getD ss j 0)
+  abbrev pub apartBy : ℕ → ℕ → Bool
+  apartBy i j = apart (getD Ts i 0) (getD qs i 0) (getD ss i 0) (getD Ts j 0) (getD qs j 0) (getD ss j 0)
 
-  abbrev tick : ℕ → ℕ → ℕ
-  tick i j = sharedTick (getD Ts i 0) (getD qs i 0) (getD ss i 0) (getD Ts j 0) (getD qs j 0) (getD ss j 0)
+  abbrev pub tickBy : ℕ → ℕ → ℕ
+  tickBy i j = sharedTick (getD Ts i 0) (getD qs i 0) (getD ss i 0) (getD Ts j 0) (getD qs j 0) (getD ss j 0)
 
-  -- the test and the tick of a pair are those of the shorter period first
-  ordered : (P : Bool → ℕ → Type 0) (i j : ℕ)
-      → (getD Ts i 0 ≤ getD Ts j 0 → P (test i j) (tick i j))
-      → (getD Ts j 0 ≤ getD Ts i 0 → P (test j i) (tick j i))
-      → P (apartAt Ts qs ss i j) (tickAt Ts qs ss i j)
+  pub at-by-first : (i j : ℕ) → getD Ts i 0 ≤ getD Ts j 0 → (apartAt Ts qs ss i j ≡ apartBy i j) × (tickAt Ts qs ss i j ≡ tickBy i j)
   unfolding apartAt tickAt
-  ordered P i j f g = by (leb (getD Ts i 0) (getD Ts j 0)) refl
+  at-by-first i j l =
+      let e = le-leb (getD Ts i 0) (getD Ts j 0) l in
+      (rw e, rw e)
+
+  pub at-by-second : (i j : ℕ) → getD Ts j 0 < getD Ts i 0 → (apartAt Ts qs ss i j ≡ apartBy j i) × (tickAt Ts qs ss i j ≡ tickBy j i)
+  unfolding apartAt tickAt
+  at-by-second i j l =
+      let e = lt-leb (getD Ts i 0) (getD Ts j 0) l in
+      (rw e, rw e)
+
+  -- what holds of both orders holds of the pair
+  ordered : (P : Bool → ℕ → Type 0) (i j : ℕ)
+      → (getD Ts i 0 ≤ getD Ts j 0 → P (apartBy i j) (tickBy i j))
+      → (getD Ts j 0 ≤ getD Ts i 0 → P (apartBy j i) (tickBy j i))
+      → P (apartAt Ts qs ss i j) (tickAt Ts qs ss i j)
+  ordered P i j f g = by (decLe (getD Ts i 0) (getD Ts j 0))
     where
-      by : (b : Bool) → leb (getD Ts i 0) (getD Ts j 0) ≡ b → P (pick b (test i j) (test j i)) (pick b (tick i j) (tick j i))
-      by true e = f (leb-true (getD Ts i 0) (getD Ts j 0) e)
-      by false e = g (le-of-lt (leb-false (getD Ts i 0) (getD Ts j 0) e))
+      by : Dec (getD Ts i 0 ≤ getD Ts j 0) → P (apartAt Ts qs ss i j) (tickAt Ts qs ss i j)
+      by (yes l) = rw (at-by-first i j l .0, at-by-first i j l .1) (f l)
+      by (no l) =
+          let m : getD Ts j 0 < getD Ts i 0 = omega arith in
+          rw (at-by-second i j m .0, at-by-second i j m .1) (g (le-of-lt m))
 
   module _ (har : Harmonic Ts) (pos : Positive qs (length Ts)) where
-    test-tells : (i j : ℕ) → i < length Ts → j < length Ts → getD Ts i 0 ≤ getD Ts j 0 → Tells (test i j) (NeverMeetAt Ts qs ss i j)
-    test-tells i j hi hj l = meet-tells _ _ _ _ _ _ (har .divides i j hi hj l) (har .positive j hj) (pos i hi) (pos j hj)
+    by-tells : (i j : ℕ) → i < length Ts → j < length Ts → getD Ts i 0 ≤ getD Ts j 0 → Tells (apartBy i j) (NeverMeetAt Ts qs ss i j)
+    by-tells i j hi hj l = meet-tells _ _ _ _ _ _ (har .divides i j hi hj l) (har .positive j hj) (pos i hi) (pos j hj)
 
     pub apart-at-tells : (i j : ℕ) → i < length Ts → j < length Ts → Tells (apartAt Ts qs ss i j) (NeverMeetAt Ts qs ss i j)
     apart-at-tells i j hi hj =
         ordered (λ b t. Tells b (NeverMeetAt Ts qs ss i j)) i j
-        (test-tells i j hi hj)
-        (λ l. tells-as (test j i) (test-tells j i hj hi l) (never-meet-swap _ _ _ _ _ _) (never-meet-swap _ _ _ _ _ _))
+        (by-tells i j hi hj)
+        (λ l. tells-as (apartBy j i) (by-tells j i hj hi l) (never-meet-swap _ _ _ _ _ _) (never-meet-swap _ _ _ _ _ _))
 
     below-tells : (j i : ℕ) → i ≤ j → j < length Ts → Tells (apartBelow Ts qs ss j i) ((k : ℕ) → k < i → NeverMeetAt Ts qs ss k j)
     unfolding apartBelow
@@ -118,11 +131,11 @@ module _ (Ts qs ss : List ℕ) where
 
     -- the tick of two probes, i the one of the shorter period
     module _ (i j : ℕ) (hi : i < length Ts) (hj : j < length Ts) (li : getD ss i 0 < getD Ts i 0) (lj : getD ss j 0 < getD Ts j 0) where
-      tick-first : getD Ts i 0 ≤ getD Ts j 0 → test i j ≡ false → FirstSharedAt Ts qs ss i j (tick i j)
+      tick-first : getD Ts i 0 ≤ getD Ts j 0 → apartBy i j ≡ false → FirstSharedAt Ts qs ss i j (tickBy i j)
       tick-first l e =
           shared-tick-first _ _ _ _ _ _ (har .divides i j hi hj l) (har .positive j hj) li (pos i hi) (apart-tells _ _ _ _ _ _ .no e) (pos j hj)
 
-      tick-bound : getD Ts i 0 ≤ getD Ts j 0 → test i j ≡ false → tick i j + 2 ≤ getD Ts j 0 + max (getD qs i 0) (getD qs j 0)
+      tick-bound : getD Ts i 0 ≤ getD Ts j 0 → apartBy i j ≡ false → tickBy i j + 2 ≤ getD Ts j 0 + max (getD qs i 0) (getD qs j 0)
       tick-bound l e =
           shared-tick-bound _ _ _ _ _ _ (har .divides i j hi hj l) (har .positive j hj) li (pos i hi) (apart-tells _ _ _ _ _ _ .no e) lj
 

@@ -1,28 +1,26 @@
 -- THE MOVE TO o KEEPS A LINE CLEAN. Document 01, the packing verdict: "let o be the start .., replace each s by the remainder of s - o by T".
 --     length-moved, moved-at   the moved list, place by place
 --     moved-lt                 each moved start lies below its period
---     apart-moved              a pair that is moved alike passes the test as before
+--     apart-moved, -at-moved   a pair that is moved alike passes the test as before
 --     clean-test-moved         so does the line
 --     clean-moved              and it is clean exactly when it was
 -- Edges: o is any number, also past a period; the starts may be any numbers.
 -- Assumes nothing.
 use mathlib.Core.Path.{_≡_, refl, sym, ap, _∙_}
 use mathlib.Core.Logic.{_↔_}
-use mathlib.Core.Bool.{Bool, true, false}
 use mathlib.Core.List.{List, [], _∷_}
 use Prim.Native.Nat.{ℕ, zero, suc, _≤_, _<_, _∣_}
 use native.Mathlib.Nat.{le-of-lt, suc-inj}
+use native.Mathlib.Decide.{decLe}
 use native.Mathlib.Omega.{arith}
-use lib.Dec.{leb}
 use lib.ListN.{length, getD}
-use borrow.Author.Tests.{leb-true, leb-false}
-use Rattle.lists.specs.Pick.{pick, Tells}
+use Rattle.lists.specs.Pick.{Tells}
 use Rattle.lists.specs.Harmonic.{Harmonic, Positive}
 use Rattle.lists.specs.Telling.{tells-true}
 use Rattle.wire.specs.Wire.{Clean}
 use Rattle.wire.specs.Meeting.{lag, apart, apartAt, apartBelow, cleanBelow, clean, moved}
 use Rattle.wire.specs.Lag.{lag-lt, lag-moved}
-use Rattle.wire.specs.CleanTest.{clean-tells}
+use Rattle.wire.specs.CleanTest.{apartBy, at-by-first, at-by-second, clean-tells}
 
 pub length-moved : (o : ℕ) (Ts ss : List ℕ) → length Ts ≡ length ss → length (moved o Ts ss) ≡ length ss
 unfolding moved
@@ -45,24 +43,20 @@ pub apart-moved : (T q s U r u o : ℕ) → T ∣ U → 0 < U → apart T q (lag
 unfolding apart
 apart-moved T q s U r u o d h = rw (lag-moved T U o s u d h)
 
--- the test of probes i and j, i the one of the shorter period
-abbrev test : List ℕ → List ℕ → List ℕ → ℕ → ℕ → Bool
-test Ts qs ss i j = apart (getD Ts i 0) (getD qs i 0) (getD ss i 0) (getD Ts j 0) (getD qs j 0) (getD ss j 0)
-
 module _ (o : ℕ) (Ts qs ss : List ℕ) (har : Harmonic Ts) (same : length Ts ≡ length ss) where
-  test-moved : (i j : ℕ) → i < length Ts → j < length Ts → getD Ts i 0 ≤ getD Ts j 0 → test Ts qs (moved o Ts ss) i j ≡ test Ts qs ss i j
-  test-moved i j hi hj l =
+  by-moved : (i j : ℕ) → i < length Ts → j < length Ts → getD Ts i 0 ≤ getD Ts j 0 → apartBy Ts qs (moved o Ts ss) i j ≡ apartBy Ts qs ss i j
+  by-moved i j hi hj l =
       rw (moved-at o Ts ss i hi (omega arith), moved-at o Ts ss j hj (omega arith))
       (apart-moved _ _ (getD ss i 0) _ _ (getD ss j 0) o (har .divides i j hi hj l) (har .positive j hj))
 
   pub apart-at-moved : (i j : ℕ) → i < length Ts → j < length Ts → apartAt Ts qs (moved o Ts ss) i j ≡ apartAt Ts qs ss i j
-  unfolding apartAt
-  apart-at-moved i j hi hj = by (leb (getD Ts i 0) (getD Ts j 0)) refl
+  apart-at-moved i j hi hj = by (decLe (getD Ts i 0) (getD Ts j 0))
     where
-      by : (b : Bool) → leb (getD Ts i 0) (getD Ts j 0) ≡ b
-          → pick b (test Ts qs (moved o Ts ss) i j) (test Ts qs (moved o Ts ss) j i) ≡ pick b (test Ts qs ss i j) (test Ts qs ss j i)
-      by true e = test-moved i j hi hj (leb-true (getD Ts i 0) (getD Ts j 0) e)
-      by false e = test-moved j i hj hi (le-of-lt (leb-false (getD Ts i 0) (getD Ts j 0) e))
+      by : Dec (getD Ts i 0 ≤ getD Ts j 0) → apartAt Ts qs (moved o Ts ss) i j ≡ apartAt Ts qs ss i j
+      by (yes l) = at-by-first Ts qs (moved o Ts ss) i j l .0 ∙ by-moved i j hi hj l ∙ sym (at-by-first Ts qs ss i j l .0)
+      by (no l) =
+          let m : getD Ts j 0 < getD Ts i 0 = omega arith in
+          at-by-second Ts qs (moved o Ts ss) i j m .0 ∙ by-moved j i hj hi (le-of-lt m) ∙ sym (at-by-second Ts qs ss i j m .0)
 
   below-moved : (j i : ℕ) → i ≤ j → j < length Ts → apartBelow Ts qs (moved o Ts ss) j i ≡ apartBelow Ts qs ss j i
   unfolding apartBelow
