@@ -1,0 +1,5 @@
+pub mod Bytes
+pub mod Layout
+pub mod Block
+pub mod Reading
+pub mod Writing

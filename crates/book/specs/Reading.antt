@@ -1,0 +1,113 @@
+-- READING A BOOK. Document 01, "The book": "Reading, in order: 20, size 0, no multiple of 512, or above 3,584; then per block ascending 21 .. 22 .. 23 .. each with the block as index;
+-- then 24, a column shorter than n .. A done reading has n as its index .. Refused calls write nothing .. Bytes and entries past the result stay."
+--     BadSize L bs          20
+--     blockAt b bs          the bytes of block b
+--     nOf bs                the book's n: what block 0 carries
+--     field k L f i bs      number f (period 0, length 1, start 2) of record i
+--     column L f n bs       that number of the first n records
+--     readLines L bs ..     the lines of reading, in order
+--     Columns               an answer, and the three lent columns afterwards
+--     Reads L bs Ts ps ss o     the promise of `read`
+--     readOf L bs Ts ps ss      the same, computed
+-- Assumes nothing.
+use mathlib.Core.Path.{_≡_}
+use mathlib.Core.Logic.{_⊎_, _≢_}
+use mathlib.Core.Bool.{Bool, not}
+use mathlib.Core.List.{List, [], _∷_, _++_}
+use Prim.Native.Nat.{ℕ, zero, suc, _+_, _*_, _/_, _%_, _<_}
+use lib.Dec.{ltb, eqb}
+use lib.ListN.{length, take, drop}
+use Rattle.lists.specs.Pick.{pick, either}
+use Rattle.lists.specs.Refusals.{Line, line, whole, First}
+use Rattle.lists.specs.Answering.{Found, found, tested, firstOf}
+use Rattle.words.specs.declared.Answer.{Answer}
+use Rattle.words.specs.Answers.{refused}
+use Rattle.book.specs.Bytes.{word}
+use Rattle.book.specs.Layout.{Layout, blockBytes, headBytes}
+use Rattle.book.specs.Block.{WrongSum, WrongField, UsedUnused, wrongSum, wrongField, usedUnused}
+
+abbrev pub BadSize : Layout → List ℕ → Type 0
+BadSize L bs = (length bs ≡ 0) ⊎ ((length bs % blockBytes ≢ 0) ⊎ (L .mostBlocks * blockBytes < length bs))
+
+unfoldable pub badSize : Layout → List ℕ → Bool
+badSize L bs = either (eqb (length bs) 0) (either (not (eqb (length bs % blockBytes) 0)) (ltb (L .mostBlocks * blockBytes) (length bs)))
+
+unfoldable pub blockAt : ℕ → List ℕ → List ℕ
+blockAt b bs = take blockBytes (drop (b * blockBytes) bs)
+
+unfoldable pub blocksIn : List ℕ → ℕ
+blocksIn bs = length bs / blockBytes
+
+unfoldable pub nOf : List ℕ → ℕ
+nOf bs = word 2 6 bs
+
+-- a line that names block b where C holds
+abbrev pub blockLine : ℕ → ℕ → Type 0 → Line
+blockLine k b C = line k (suc b) (λ i. (i ≡ b) × C)
+
+abbrev pub blockTest : ℕ → ℕ → Bool → Found
+blockTest k b c = found k (suc b) (pick c b (suc b))
+
+module _ (L : Layout) (bs : List ℕ) where
+  -- the lines of the k blocks from block b on
+  unfoldable pub blockLines : ℕ → ℕ → List Line
+  blockLines b zero = []
+  blockLines b (suc k) =
+      blockLine 21 b (WrongSum (blockAt b bs))
+      ∷ blockLine 22 b (WrongField L (nOf bs) (blocksIn bs) b (blockAt b bs))
+      ∷ blockLine 23 b (UsedUnused L (nOf bs) b (blockAt b bs))
+      ∷ blockLines (suc b) k
+
+  unfoldable pub blockFindings : ℕ → ℕ → List Found
+  blockFindings b zero = []
+  blockFindings b (suc k) =
+      blockTest 21 b (wrongSum (blockAt b bs))
+      ∷ blockTest 22 b (wrongField L (nOf bs) (blocksIn bs) b (blockAt b bs))
+      ∷ blockTest 23 b (usedUnused L (nOf bs) b (blockAt b bs))
+      ∷ blockFindings (suc b) k
+
+  -- the four bytes of number f of record i
+  unfoldable pub field : ℕ → ℕ → ℕ
+  field f i = word 4 (i / L .records * blockBytes + headBytes + i % L .records * L .recordBytes + f * 4) bs
+
+  -- number f of k records from record i on
+  unfoldable pub column : ℕ → ℕ → ℕ → List ℕ
+  column f i zero = []
+  column f i (suc k) = field f i ∷ column f (suc i) k
+
+pub record Columns : Type 0 where
+  pub answer : Answer
+  pub periods : List ℕ
+  pub lengths : List ℕ
+  pub starts : List ℕ
+
+abbrev pub columns : Answer → List ℕ → List ℕ → List ℕ → Columns
+columns a Ts ps ss = record { answer = a; periods = Ts; lengths = ps; starts = ss }
+
+module _ (L : Layout) (bs Ts ps ss : List ℕ) where
+  -- 24: "a column shorter than n"
+  abbrev pub ShortColumn : Type 0
+  ShortColumn = (length Ts < nOf bs) ⊎ ((length ps < nOf bs) ⊎ (length ss < nOf bs))
+
+  abbrev pub readLines : List Line
+  readLines = whole 20 (BadSize L bs) ∷ (blockLines L bs 0 (blocksIn bs) ++ (whole 24 ShortColumn ∷ []))
+
+  unfoldable pub readFindings : List Found
+  readFindings =
+      tested 20 (badSize L bs)
+      ∷ (blockFindings L bs 0 (blocksIn bs)
+      ++ (tested 24 (either (ltb (length Ts) (nOf bs)) (either (ltb (length ps) (nOf bs)) (ltb (length ss) (nOf bs)))) ∷ []))
+
+  abbrev pub refusedRead : ℕ → ℕ → Columns
+  refusedRead k i = columns (refused k i) Ts ps ss
+
+  unfoldable pub doneRead : Columns
+  doneRead =
+      columns (refused 0 (nOf bs)) (column L bs 0 0 (nOf bs) ++ drop (nOf bs) Ts) (column L bs 1 0 (nOf bs) ++ drop (nOf bs) ps)
+      (column L bs 2 0 (nOf bs) ++ drop (nOf bs) ss)
+
+  unfoldable pub Reads : Columns → Type 0
+  Reads o = First readLines refusedRead (λ r. r ≡ doneRead) o
+
+  unfoldable pub readOf : Columns
+  readOf = firstOf readFindings refusedRead doneRead

@@ -1,0 +1,1 @@
+// The book: bytes, sums, reading and writing.

@@ -1,0 +1,1 @@
+// The text that `plan` and `check` print.

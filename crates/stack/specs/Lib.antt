@@ -1,0 +1,4 @@
+pub mod Stack
+pub mod FirstFit
+pub mod Packing
+pub mod Room
