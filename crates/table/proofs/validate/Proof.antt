@@ -1,0 +1,19 @@
+-- `table::validate` meets its promise: it answers what the judge answers. Assumes nothing.
+use Rattle.table.specs.Laws.{verdict-meets}
+use borrow.Author.Needs.{needs}
+use Rattle.table.proofs.validate.Statement.{statement}
+use Rattle.table.proofs.validate.Tie as tie
+use Rattle.table.proofs.validate.Reads as reads
+use Rattle.table.proofs.validate.Lts as lts
+use Rattle.table.proofs.judge.Reads as judge-reads
+
+-- src/lib.rt:266:5
+judge-requires : tie.Need-judge-requires
+judge-requires c κs = search needs
+
+-- src/lib.rt:263:1
+returns : tie.Need-returns
+returns c = rw (c .judge .ensures) (verdict-meets _ _)
+
+pub validate-spec : {M : Type 1} → statement M
+validate-spec = tie.close (tie.spec judge-requires returns)
