@@ -65,3 +65,16 @@ module _ {O : Type 0} where
           let over : f .places ≤ f .place = ltb-false (f .place) (f .places) e in
           let silent : (i : ℕ) → i < l .places → l .Wrong i → ⊥ = λ i h. g .place .passed i (omega (arith, g .places)) in
           inr (silent, ih silent)
+
+  -- checks in two parts
+  pub first-of-append : (fs gs : List Found) (refuse : ℕ → ℕ → O) (o : O) → firstOf (fs ++ gs) refuse o ≡ firstOf fs refuse (firstOf gs refuse o)
+  unfolding firstOf
+  first-of-append [] gs refuse o = refl
+  first-of-append (f ∷ fs) gs refuse o = rw (first-of-append fs gs refuse o)
+
+pub all-find-append : (ls ms : List Line) (fs gs : List Found) → AllFind ls fs → AllFind ms gs → AllFind (ls ++ ms) (fs ++ gs)
+unfolding AllFind
+all-find-append [] ms [] gs a b = b
+all-find-append [] ms (f ∷ fs) gs a b = absurd a
+all-find-append (l ∷ ls) ms [] gs a b = absurd a
+all-find-append (l ∷ ls) ms (f ∷ fs) gs (h, a) b = (h, all-find-append ls ms fs gs a b)

@@ -35,13 +35,22 @@ module _ (Ts ps : List ℕ) where
   -- the six checks find what the six lines ask for, whatever columns number 1 counts
   pub findings-find : (D : Type 0) (d : Bool) → Tells d D → AllFind (lines Ts ps D) (findings d Ts ps)
   unfolding AllFind findings
-  findings-find D d t =
-      (finds-whole 1 D d t,
-      (finds-whole 2 (mostProbes < length Ts) (ltb mostProbes (length Ts)) (tells-lt mostProbes (length Ts)),
-      (finds-line 3 (length Ts) (BadPeriod Ts ps) _ (lowest-meets (badPeriod Ts) (BadPeriod Ts ps) (length Ts) (λ i h. bad-period-tells Ts ps i)),
-      (finds-line 4 (length Ts) (BadLength Ts ps) _ (lowest-meets (badLength (shortest Ts) ps) (BadLength Ts ps) (length Ts) (λ i h. bad-length-tells Ts ps i)),
-      (finds-line 5 (length Ts) (Unchained Ts ps) _ (lowest-meets (unchained Ts) (Unchained Ts ps) (length Ts) (λ i h. unchained-tells Ts ps i)),
-      (finds-whole 6 (mostRows < rows Ts) (ltb mostRows (rows Ts)) (tells-lt mostRows (rows Ts)), tt))))))
+  findings-find D d t = (
+    finds-whole 1 D d t,
+    (
+      finds-whole 2 (mostProbes < length Ts) (ltb mostProbes (length Ts)) (tells-lt mostProbes (length Ts)),
+      (
+        finds-line 3 (length Ts) (BadPeriod Ts ps) _ (lowest-meets (badPeriod Ts) (BadPeriod Ts ps) (length Ts) (λ i h. bad-period-tells Ts ps i)),
+        (
+          finds-line 4 (length Ts) (BadLength Ts ps) _ (lowest-meets (badLength (shortest Ts) ps) (BadLength Ts ps) (length Ts) (λ i h. bad-length-tells Ts ps i)),
+          (
+            finds-line 5 (length Ts) (Unchained Ts ps) _ (lowest-meets (unchained Ts) (Unchained Ts ps) (length Ts) (λ i h. unchained-tells Ts ps i)),
+            (finds-whole 6 (mostRows < rows Ts) (ltb mostRows (rows Ts)) (tells-lt mostRows (rows Ts)), tt),
+          ),
+        ),
+      ),
+    ),
+  )
 
   pub verdict-meets : Validates Ts ps (verdict Ts ps)
   unfolding verdict Validates
@@ -108,15 +117,15 @@ module _ (Ts ps : List ℕ) where
   pub sound-gives : Sound Ts ps → Soundness Ts ps
   unfolding Silents
   sound-gives (s₁, (s₂, (s₃, (s₄, (s₅, (s₆, end)))))) = record {
-        same = equal (ℕ-discrete (length Ts) (length ps));
-        few = at-most mostProbes (length Ts) (s₂ 0 (omega arith)) (decLe (length Ts) mostProbes);
-        least = from-one;
-        most = λ i h. at-most mostPeriod (getD Ts i 0) (λ b. s₃ i h (inr b)) (decLe (getD Ts i 0) mostPeriod);
-        reads = λ i h. not-none i h (decLt 0 (getD ps i 0));
-        short = λ i h. at-most (shortest Ts) (getD ps i 0) (λ b. s₄ i h (inr b)) (decLe (getD ps i 0) (shortest Ts));
-        harmonic = record { positive = from-one; divides = λ i j h k l. chain i j h k l (decLt j i) (decLt i j) };
-        low = at-most mostRows (rows Ts) (s₆ 0 (omega arith)) (decLe (rows Ts) mostRows);
-      }
+    same = equal (ℕ-discrete (length Ts) (length ps));
+    few = at-most mostProbes (length Ts) (s₂ 0 (omega arith)) (decLe (length Ts) mostProbes);
+    least = from-one;
+    most = λ i h. at-most mostPeriod (getD Ts i 0) (λ b. s₃ i h (inr b)) (decLe (getD Ts i 0) mostPeriod);
+    reads = λ i h. not-none i h (decLt 0 (getD ps i 0));
+    short = λ i h. at-most (shortest Ts) (getD ps i 0) (λ b. s₄ i h (inr b)) (decLe (getD ps i 0) (shortest Ts));
+    harmonic = record { positive = from-one; divides = λ i j h k l. chain i j h k l (decLt j i) (decLt i j) };
+    low = at-most mostRows (rows Ts) (s₆ 0 (omega arith)) (decLe (rows Ts) mostRows);
+  }
     where
       at-most : (m x : ℕ) → (m < x → ⊥) → Dec (x ≤ m) → x ≤ m
       at-most m x none (yes h) = h

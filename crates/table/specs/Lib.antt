@@ -4,3 +4,4 @@ pub mod Seen
 pub mod Steps
 pub mod Ways
 pub mod Laws
+pub mod Composing

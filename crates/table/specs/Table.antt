@@ -9,11 +9,12 @@
 --     Sound Ts ps       "A table is sound when none of 1 to 6 applies."                                 (believe this)
 --     lateLine Ts ss    line 9: "a start is T or more"
 --     Below Ts ss       every start lies below its period: 9 does not apply
+--     listLines Ts ps ss    the lines 1 to 6 and 9 of a call that takes a list: periods, lengths and starts
 -- Edges: the empty table is sound; number 5 is about every earlier probe; w is the least period of the whole table.
 -- Assumes nothing.
 use mathlib.Core.Path.{_≡_}
 use mathlib.Core.Logic.{_⊎_, _≢_}
-use mathlib.Core.List.{List, [], _∷_, map}
+use mathlib.Core.List.{List, [], _∷_, _++_, map}
 use Prim.Native.Nat.{ℕ, zero, suc, _+_, _/_, _≤_, _<_, _∣_, min, max}
 use lib.ListN.{length, getD}
 use Rattle.lists.specs.Refusals.{Line, line, whole, Silent, Silents}
@@ -92,3 +93,11 @@ module _ (Ts ss : List ℕ) where
 
   abbrev pub Below : Type 0
   Below = Silent lateLine
+
+module _ (Ts ps ss : List ℕ) where
+  -- 1 of a call that takes three columns
+  abbrev pub DifferThree : Type 0
+  DifferThree = (length Ts ≢ length ss) ⊎ (length Ts ≢ length ps)
+
+  abbrev pub listLines : List Line
+  listLines = lines Ts ps DifferThree ++ (lateLine Ts ss ∷ [])

@@ -2,11 +2,12 @@
 --     badPeriod, badLength, unchained, late     the conditions of 3, 4, 5 and 9 at a place, as tests
 --     findings d Ts ps                          what each of the six checks finds; d is the test of number 1
 --     verdict Ts ps                             the answer of the first that finds something, else done
+--     listFindings Ts ps ss                     what the seven checks of a list find
 --     Validates Ts ps a                         the promise: a is the refusal of the first line that applies, and done where none does
 -- Assumes nothing.
 use mathlib.Core.Path.{_≡_}
 use mathlib.Core.Bool.{Bool, true, false, not}
-use mathlib.Core.List.{List, [], _∷_}
+use mathlib.Core.List.{List, [], _∷_, _++_}
 use Prim.Native.Nat.{ℕ, _%_, _≤_, _<_}
 use lib.Dec.{leb, ltb, eqb}
 use lib.ListN.{length, getD}
@@ -50,6 +51,11 @@ findings differ Ts ps =
 
 unfoldable pub verdict : List ℕ → List ℕ → Answer
 verdict Ts ps = firstOf (findings (not (eqb (length Ts) (length ps))) Ts ps) refused done
+
+unfoldable pub listFindings : List ℕ → List ℕ → List ℕ → List Found
+listFindings Ts ps ss =
+    findings (either (not (eqb (length Ts) (length ss))) (not (eqb (length Ts) (length ps)))) Ts ps
+    ++ (found 9 (length Ts) (lowest (late Ts ss) (length Ts)) ∷ [])
 
 unfoldable pub Validates : List ℕ → List ℕ → Answer → Type 0
 Validates Ts ps a = First (lines Ts ps (Differ Ts ps)) refused (λ r. r ≡ done) a

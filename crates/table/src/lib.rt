@@ -7,6 +7,7 @@ ghost use Rattle.lists.specs.Pick.{Tells};
 ghost use Rattle.lists.specs.Lowest.{lowest};
 ghost use Rattle.table.specs.Table.{mostProbes, mostPeriod, mostRows, shortest, longest, rows};
 ghost use Rattle.table.specs.Verdict.{badPeriod, badLength, unchained, late, verdict, Validates};
+ghost use Rattle.table.specs.Composing.{listVerdict};
 ghost use Rattle.table.specs.Seen.{mostChained, Seen, Clashes};
 use words::Answer;
 
@@ -255,6 +256,26 @@ pub fn judge(periods: &[u32], lengths: &[u32]) -> Answer
     let h = table.rows;
     if Table::ROWS < h {
         return Answer::refused(6, 0);
+    }
+    Answer::done()
+}
+
+// Numbers 1 to 6 and 9 of a list, in order: what every call asks first that takes starts.
+pub fn judge_list(periods: &[u32], lengths: &[u32], starts: &[u32]) -> Answer
+    ensures { λ r. ⌜ r ≡ listVerdict (now (periods .entry)) (now (lengths .entry)) (now (starts .entry)) ⌝ }
+{
+    let n = periods.len();
+    if n != starts.len() {
+        return Answer::refused(1, 0);
+    }
+    let answer = judge(periods, lengths);
+    let number = answer.number;
+    if number != 0 {
+        return answer;
+    }
+    let i = late(periods, starts);
+    if i < n {
+        return at_place(9, i);
     }
     Answer::done()
 }

@@ -37,10 +37,11 @@ rem-if2 c = search needs
 
 returns : tie.Need-returns Inv-loop μ-loop
 returns c =
-    tells-yes
-    (c .before .before .before .loop .k,
-    omega arith,
-    ⊎-elim (λ d. c .before .if1 .taken (dvd-iff-mod-eq-zero _ .0 d)) (λ d. c .if2 .taken (dvd-iff-mod-eq-zero _ .0 d)))
+    tells-yes (
+      c .before .before .before .loop .k,
+      omega arith,
+      ⊎-elim (λ d. c .before .if1 .taken (dvd-iff-mod-eq-zero _ .0 d)) (λ d. c .if2 .taken (dvd-iff-mod-eq-zero _ .0 d)),
+    )
 
 add-k : tie.Need-add-k Inv-loop μ-loop
 add-k c = search needs

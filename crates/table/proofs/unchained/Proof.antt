@@ -84,15 +84,15 @@ loop-again c =
     let range = c .before .before .before .before .before .before .pre in
     ⊎-elim
     (λ w.
-        let fresh = c .before .is-seen .ensures .no (not-true _ (w .0 .taken)) in
-        let fits = w .1 .ensures .no (w .2 .left) in
-        let room = new-room _ _ _ (l .i) (l .inv .2) fresh fits (λ j h. range j (omega arith)) in
-        rw (w .3, w .4)
-        (omega arith, simp length-set (l .inv .1), new-more _ _ _ (l .i) (l .inv .2) fresh fits (omega arith), searching-next _ _ (l .i) (omega arith) (keeping-new _ _ _ (l .i) (l .inv .2) fresh fits) (l .inv .3)))
+    let fresh = c .before .is-seen .ensures .no (not-true _ (w .0 .taken)) in
+    let fits = w .1 .ensures .no (w .2 .left) in
+    let room = new-room _ _ _ (l .i) (l .inv .2) fresh fits (λ j h. range j (omega arith)) in
+    rw (w .3, w .4)
+    (omega arith, simp length-set (l .inv .1), new-more _ _ _ (l .i) (l .inv .2) fresh fits (omega arith), searching-next _ _ (l .i) (omega arith) (keeping-new _ _ _ (l .i) (l .inv .2) fresh fits) (l .inv .3)))
     (λ w.
-        let old = c .before .is-seen .ensures .yes (not-false _ (w .0 .left)) in
-        rw (w .1, w .2)
-        (omega arith, l .inv .1, seen-more _ _ _ (l .i) (l .inv .2) old, searching-next _ _ (l .i) (omega arith) (keeping-seen _ _ _ (l .i) (l .inv .2) old) (l .inv .3)))
+    let old = c .before .is-seen .ensures .yes (not-false _ (w .0 .left)) in
+    rw (w .1, w .2)
+    (omega arith, l .inv .1, seen-more _ _ _ (l .i) (l .inv .2) old, searching-next _ _ (l .i) (omega arith) (keeping-seen _ _ _ (l .i) (l .inv .2) old) (l .inv .3)))
     (c .if1 .came)
 
 returns-2 : tie.Need-returns-2 Inv-loop μ-loop
