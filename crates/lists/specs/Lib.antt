@@ -5,3 +5,4 @@ pub mod Refusals
 pub mod Answering
 pub mod Harmonic
 pub mod Doubling
+pub mod Sums

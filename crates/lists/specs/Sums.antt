@@ -1,0 +1,26 @@
+-- SUMS.
+--     sumOf f xs        f x, added up over the numbers x of a list
+--     sumBelow f n      f k, added up over the numbers k below n
+-- Assumes nothing.
+use mathlib.Core.Path.{_≡_, refl}
+use mathlib.Core.List.{List, [], _∷_}
+use Prim.Native.Nat.{ℕ, zero, suc, _+_, _≤_, _<_}
+use native.Mathlib.Omega.{arith}
+
+unfoldable pub sumOf : (ℕ → ℕ) → List ℕ → ℕ
+sumOf f [] = 0
+sumOf f (x ∷ xs) = f x + sumOf f xs
+
+unfoldable pub sumBelow : (ℕ → ℕ) → ℕ → ℕ
+sumBelow f zero = 0
+sumBelow f (suc n) = f n + sumBelow f n
+
+pub sumBelow-same : (f g : ℕ → ℕ) (n : ℕ) → ((k : ℕ) → k < n → f k ≡ g k) → sumBelow f n ≡ sumBelow g n
+unfolding sumBelow
+sumBelow-same f g zero e = refl
+sumBelow-same f g (suc n) e = omega (arith, e n (omega arith), sumBelow-same f g n (λ k h. e k (omega arith)))
+
+pub sumBelow-at-most : (f g : ℕ → ℕ) (n : ℕ) → ((k : ℕ) → k < n → f k ≤ g k) → sumBelow f n ≤ sumBelow g n
+unfolding sumBelow
+sumBelow-at-most f g zero e = omega arith
+sumBelow-at-most f g (suc n) e = omega (arith, e n (omega arith), sumBelow-at-most f g n (λ k h. e k (omega arith)))
