@@ -1,2 +1,4 @@
 pub mod Table
 pub mod Verdict
+pub mod Extremes
+pub mod Heights
