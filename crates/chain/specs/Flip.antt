@@ -4,6 +4,8 @@
 --     flip bs m v       the sub-bin of slot v, of m slots                                               (shut: known by its laws alone)
 --     unflip bs m j     the slot of sub-bin j, of m slots                                               (shut)
 -- Assumes nothing.
+pub mod Laws
+pub mod Steps
 use mathlib.Core.Bool.{Bool}
 use mathlib.Core.List.{List, [], _∷_, reverse}
 use Prim.Native.Nat.{ℕ, _+_, _*_, _/_, _%_, _<_}
