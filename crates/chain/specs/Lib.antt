@@ -5,4 +5,7 @@ pub mod Flip
 pub mod Mirror
 pub mod Levels
 pub mod Ratios
+pub mod Climbing
+pub mod Quotients
+pub mod RatioLaws
 pub mod Corners

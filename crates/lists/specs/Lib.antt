@@ -3,3 +3,4 @@ pub mod Lowest
 pub mod Refusals
 pub mod Answering
 pub mod Harmonic
+pub mod Members
