@@ -8,4 +8,6 @@ pub mod Ratios
 pub mod Climbing
 pub mod Quotients
 pub mod RatioLaws
+pub mod Twelve
 pub mod Corners
+pub mod CornerLaws

@@ -4,12 +4,13 @@
 --     shortest-divides          w divides T
 --     divides-longest           T divides M
 --     slots-times, height-times w times the slots is T; h times T is M
+--     height-positive           h is at least 1
 --     rows-slots                H is h times the slots
 -- Assumes nothing.
 use mathlib.Core.Path.{_≡_, refl, sym, ap, _∙_}
 use mathlib.Core.List.{List}
-use Prim.Native.Nat.{ℕ, _*_, _/_, _≤_, _<_, _∣_}
-use native.Mathlib.Nat.{mul-div-cancel', div-mul-cancel, div-eq-of-eq-mul-left, pos-of-dvd-of-pos, mul-pos}
+use Prim.Native.Nat.{ℕ, zero, suc, _*_, _/_, _≤_, _<_, _∣_}
+use native.Mathlib.Nat.{mul-div-cancel', div-mul-cancel, div-eq-of-eq-mul-left, zero-mul}
 use native.Mathlib.Omega.{arith}
 use lib.ListN.{length, getD}
 use Rattle.lists.specs.Harmonic.{Harmonic}
@@ -42,6 +43,13 @@ module _ (Ts : List ℕ) (ha : Harmonic Ts) where
     pub height-times : height Ts (getD Ts i 0) * getD Ts i 0 ≡ longest Ts
     unfolding height
     height-times = div-mul-cancel (getD Ts i 0) divides-longest
+
+    pub height-positive : 0 < height Ts (getD Ts i 0)
+    height-positive = go (height Ts (getD Ts i 0)) height-times
+      where
+        go : (k : ℕ) → k * getD Ts i 0 ≡ longest Ts → 0 < k
+        go zero e = absurd (omega (arith, zero-mul (getD Ts i 0), longest-greatest Ts i h, ha .positive i h))
+        go (suc k) e = omega arith
 
     pub rows-slots : rows Ts ≡ height Ts (getD Ts i 0) * (getD Ts i 0 / shortest Ts)
     unfolding rows
