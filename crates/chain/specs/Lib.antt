@@ -9,5 +9,7 @@ pub mod Climbing
 pub mod Quotients
 pub mod RatioLaws
 pub mod Twelve
+pub mod Slotted
+pub mod Passes
 pub mod Corners
 pub mod CornerLaws
