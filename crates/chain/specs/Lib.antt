@@ -11,5 +11,6 @@ pub mod RatioLaws
 pub mod Twelve
 pub mod Slotted
 pub mod Passes
+pub mod Gathering
 pub mod Corners
 pub mod CornerLaws
