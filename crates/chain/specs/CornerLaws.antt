@@ -6,8 +6,8 @@
 --     start-below               the start of a corner on the grid is below T
 --     corner-of-start           and its corner is that corner
 -- Assumes nothing.
-use mathlib.Core.Path.{_≡_, refl, sym, ap, _∙_}
-use mathlib.Core.Logic.{_⊎_, inl, inr}
+use mathlib.Core.Path.{_≡_, _∙_}
+use mathlib.Core.Logic.{inl, inr}
 use mathlib.Core.List.{List}
 use Prim.Native.Nat.{ℕ, _+_, _*_, _/_, _%_, _≤_, _<_, _∣_}
 use native.Mathlib.Nat.{mod-lt, mod-add-div, mod-eq-of-lt, div-eq-of-lt, mul-comm, mul-div-cancel', mul-div-cancel-left, mul-lt-mul-of-pos-left, lt-of-mul-lt-mul-left, div-lt-iff-lt-mul, dvd-mul-right, add-mul-mod-self-left, add-mul-div-left, zero-add, dvd-of-mod-eq-zero, mod-eq-zero-of-dvd}

@@ -6,9 +6,9 @@
 -- Assumes nothing.
 pub mod Laws
 pub mod Steps
-use mathlib.Core.Bool.{Bool}
+pub mod Formula
 use mathlib.Core.List.{List, [], _∷_, reverse}
-use Prim.Native.Nat.{ℕ, _+_, _*_, _/_, _%_, _<_}
+use Prim.Native.Nat.{ℕ, _+_, _*_, _/_}
 use lib.Dec.{eqb}
 use Rattle.lists.specs.Pick.{pick}
 use Rattle.chain.specs.Digits.{product, digits}

@@ -7,15 +7,15 @@
 --     height-positive           h is at least 1
 --     rows-slots                H is h times the slots
 -- Assumes nothing.
-use mathlib.Core.Path.{_≡_, refl, sym, ap, _∙_}
+use mathlib.Core.Path.{_≡_, sym, ap, _∙_}
 use mathlib.Core.List.{List}
-use Prim.Native.Nat.{ℕ, zero, suc, _*_, _/_, _≤_, _<_, _∣_}
+use Prim.Native.Nat.{ℕ, zero, suc, _*_, _/_, _<_, _∣_}
 use native.Mathlib.Nat.{mul-div-cancel', div-mul-cancel, div-eq-of-eq-mul-left, zero-mul}
 use native.Mathlib.Omega.{arith}
 use lib.ListN.{length, getD}
 use Rattle.lists.specs.Harmonic.{Harmonic}
 use Rattle.table.specs.Table.{shortest, longest, rows, height}
-use Rattle.table.specs.Extremes.{HasPeriod, shortest-least, shortest-is, longest-greatest, longest-is}
+use Rattle.table.specs.Extremes.{shortest-least, shortest-is, longest-greatest, longest-is}
 
 module _ (Ts : List ℕ) (ha : Harmonic Ts) where
   pub shortest-positive : 0 < length Ts → 0 < shortest Ts

@@ -1,11 +1,11 @@
+-- `chain::compose` meets its contract. The loop's invariant: v is the number that the digits from place i on stand for. The measure is i.
+-- Assumes nothing.
 use borrow.Author.Needs.{needs}
 use native.Mathlib.Omega.{arith}
 use Prim.Native.Nat.{_-_}
 use Rattle.chain.specs.Passes.{Composing, composing-start, composing-next, composing-fits, composing-done}
 use Rattle.chain.proofs.compose.Statement.{statement}
 use Rattle.chain.proofs.compose.Tie as tie
-use Rattle.chain.proofs.compose.Reads as reads
-use Rattle.chain.proofs.compose.Lts as lts
 
 abbrev Inv-loop : tie.InvT-loop
 Inv-loop ratios d v₀ i₀ v i = Composing ratios d v i
@@ -13,55 +13,44 @@ Inv-loop ratios d v₀ i₀ v i = Composing ratios d v i
 abbrev μ-loop : tie.MeasureT-loop
 μ-loop ratios d v₀ i₀ v i = i
 
--- src/lib.rt:134:5
 loop-holds : tie.Need-loop-holds Inv-loop μ-loop
 loop-holds c = composing-start _ _ (c .pre .0) _ (omega arith)
 
--- src/lib.rt:135:9
 sub-i : tie.Need-sub-i Inv-loop μ-loop
 sub-i c = search needs
 
--- src/lib.rt:136:17
 mul-v : tie.Need-mul-v Inv-loop μ-loop
 mul-v c = search needs
 
--- src/lib.rt:136:17
 array-read-v : tie.Need-array-read-v Inv-loop μ-loop
 array-read-v c = search needs
 
--- src/lib.rt:136:13
 mul-v-2 : tie.Need-mul-v-2 Inv-loop μ-loop
 mul-v-2 c =
     let l = c .before .loop in
     let g = composing-next _ _ (c .before .before .pre .0) (l .v) (l .i) (l .inv) (l .i - 1) (omega arith) in
     omega (arith, composing-fits _ _ (c .before .before .pre .0) _ _ g)
 
--- src/lib.rt:136:29
 mul-v-3 : tie.Need-mul-v-3 Inv-loop μ-loop
 mul-v-3 c = search needs
 
--- src/lib.rt:136:29
 array-read-v-2 : tie.Need-array-read-v-2 Inv-loop μ-loop
 array-read-v-2 c = search needs
 
--- src/lib.rt:136:13
 add-v : tie.Need-add-v Inv-loop μ-loop
 add-v c =
     let l = c .before .loop in
     let g = composing-next _ _ (c .before .before .pre .0) (l .v) (l .i) (l .inv) (l .i - 1) (omega arith) in
     omega (arith, composing-fits _ _ (c .before .before .pre .0) _ _ g)
 
--- src/lib.rt:134:5
 loop-less : tie.Need-loop-less Inv-loop μ-loop
 loop-less c = search needs
 
--- src/lib.rt:134:5
 loop-again : tie.Need-loop-again Inv-loop μ-loop
 loop-again c =
     let l = c .before .loop in
     composing-next _ _ (c .before .before .pre .0) (l .v) (l .i) (l .inv) _ (omega arith)
 
--- src/lib.rt:127:1
 returns : tie.Need-returns Inv-loop μ-loop
 returns c =
     let l = c .before .loop in
