@@ -4,9 +4,11 @@
 --     flip bs m v       the sub-bin of slot v, of m slots                                               (shut: known by its laws alone)
 --     unflip bs m j     the slot of sub-bin j, of m slots                                               (shut)
 -- Assumes nothing.
-use mathlib.Core.Bool.{Bool}
+pub mod Laws
+pub mod Steps
+pub mod Formula
 use mathlib.Core.List.{List, [], _∷_, reverse}
-use Prim.Native.Nat.{ℕ, _+_, _*_, _/_, _%_, _<_}
+use Prim.Native.Nat.{ℕ, _+_, _*_, _/_}
 use lib.Dec.{eqb}
 use Rattle.lists.specs.Pick.{pick}
 use Rattle.chain.specs.Digits.{product, digits}

@@ -6,3 +6,4 @@ pub mod Answering
 pub mod Harmonic
 pub mod Doubling
 pub mod Sums
+pub mod Members

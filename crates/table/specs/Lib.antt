@@ -5,3 +5,5 @@ pub mod Steps
 pub mod Ways
 pub mod Laws
 pub mod Composing
+pub mod Extremes
+pub mod Heights
