@@ -7,3 +7,4 @@ pub mod Laws
 pub mod Composing
 pub mod Extremes
 pub mod Heights
+pub mod Widths
