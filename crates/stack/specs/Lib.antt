@@ -3,3 +3,5 @@ pub mod FirstFit
 pub mod Packing
 pub mod Room
 pub mod Rows
+pub mod Slots
+pub mod Rectangles
