@@ -5,3 +5,4 @@ pub mod Room
 pub mod Rows
 pub mod Slots
 pub mod Rectangles
+pub mod PackingLaws
