@@ -6,3 +6,4 @@ pub mod Rows
 pub mod Slots
 pub mod Rectangles
 pub mod PackingLaws
+pub mod Placing

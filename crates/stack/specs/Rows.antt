@@ -13,6 +13,7 @@ use native.Mathlib.Decide.{decLt, decLe}
 use native.Mathlib.Omega.{arith}
 use lib.ListN.{length, getD, take, drop, length-append, length-take, length-drop, List·getD-append}
 use lib.Seq.{getD-take, getD-drop, getD-append-add, length-take-le}
+use Rattle.lists.specs.Sums.{sumOf, sumOf-append}
 use Rattle.stack.specs.Stack.{raise, raised}
 
 pub length-map : (f : ℕ → ℕ) (xs : List ℕ) → length (map f xs) ≡ length xs
@@ -24,17 +25,12 @@ getD-raise q [] i h = absurd (omega arith)
 getD-raise q (x ∷ xs) zero h = refl
 getD-raise q (x ∷ xs) (suc i) h = getD-raise q xs i (omega arith)
 
-pub sum : List ℕ → ℕ
-sum [] = 0
-sum (x ∷ xs) = x + sum xs
-
-pub sum-append : (xs ys : List ℕ) → sum (xs ++ ys) ≡ sum xs + sum ys
-unfolding sum
-sum-append [] ys = omega arith
-sum-append (x ∷ xs) ys = omega (arith, sum-append xs ys)
+-- the fills added up
+abbrev pub sum : List ℕ → ℕ
+sum fs = sumOf (λ x. x) fs
 
 sum-raise : (q : ℕ) (xs : List ℕ) → sum (raise q xs) ≡ sum xs + q * length xs
-unfolding sum
+unfolding sumOf
 sum-raise q [] = omega arith
 sum-raise q (x ∷ xs) = omega (arith, sum-raise q xs)
 
@@ -93,16 +89,16 @@ module _ (fs : List ℕ) (y h q : ℕ) (fits : y + h ≤ length fs) where
   pub sum-raised : sum (raised fs y h q) ≡ sum fs + q * h
   unfolding raised
   sum-raised =
-      rw (sum-append (take y fs) (raise q (take h (drop y fs)) ++ drop (y + h) fs), sum-append (raise q (take h (drop y fs))) (drop (y + h) fs), sum-raise q (take h (drop y fs)), part-length)
+      rw (sumOf-append (λ x. x) (take y fs) (raise q (take h (drop y fs)) ++ drop (y + h) fs), sumOf-append (λ x. x) (raise q (take h (drop y fs))) (drop (y + h) fs), sum-raise q (take h (drop y fs)), part-length)
       (omega (arith, cut))
     where
       cut : sum fs ≡ sum (take y fs) + (sum (take h (drop y fs)) + sum (drop (y + h) fs))
       cut =
           ap sum (sym (lib.ListN.take-append-drop y fs))
-          ∙ sum-append (take y fs) (drop y fs)
+          ∙ sumOf-append (λ x. x) (take y fs) (drop y fs)
           ∙ ap (λ (x : ℕ). sum (take y fs) + x)
           (ap sum (sym (lib.ListN.take-append-drop h (drop y fs)))
-          ∙ sum-append (take h (drop y fs)) (drop h (drop y fs))
+          ∙ sumOf-append (λ x. x) (take h (drop y fs)) (drop h (drop y fs))
           ∙ ap (λ (l : List ℕ). sum (take h (drop y fs)) + sum l) (lib.Seq.drop-drop h y fs))
 
 -- rows of one sub-bin of height h have one fill
