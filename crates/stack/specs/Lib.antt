@@ -7,3 +7,4 @@ pub mod Slots
 pub mod Rectangles
 pub mod PackingLaws
 pub mod Placing
+pub mod Fitting
