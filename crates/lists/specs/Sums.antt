@@ -29,3 +29,9 @@ pub sumBelow-at-most : (f g : ℕ → ℕ) (n : ℕ) → ((k : ℕ) → k < n �
 unfolding sumBelow
 sumBelow-at-most f g zero e = omega arith
 sumBelow-at-most f g (suc n) e = omega (arith, e n (omega arith), sumBelow-at-most f g n (λ k h. e k (omega arith)))
+
+-- a sum by its first term
+pub sumBelow-first : (f : ℕ → ℕ) (n : ℕ) → sumBelow f (suc n) ≡ f 0 + sumBelow (λ k. f (suc k)) n
+unfolding sumBelow
+sumBelow-first f zero = omega arith
+sumBelow-first f (suc n) = omega (arith, sumBelow-first f n)

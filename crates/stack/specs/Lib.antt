@@ -8,3 +8,4 @@ pub mod Rectangles
 pub mod PackingLaws
 pub mod Placing
 pub mod Fitting
+pub mod Planning

@@ -27,7 +27,7 @@ use Rattle.order.specs.Following.{first-is, first-shortest}
 use Rattle.stack.specs.Packing.{Covers, CoversAt, Inside, NoOverlap, origin, Packs}
 use Rattle.stack.specs.Rectangles.{cells-apart, apart-cells}
 
-module _ (Ts qs zs : List ℕ) (ha : Harmonic Ts) (pos : Positive qs (length Ts)) (below : (i : ℕ) → i < length Ts → getD zs i 0 < getD Ts i 0) where
+module _ (Ts qs zs : List ℕ) (ha : Harmonic Ts) (pos : Positive qs (length Ts)) where
   abbrev ApartAt : ℕ → ℕ → Type 0
   ApartAt i j = Apart (getD Ts i 0) (getD qs i 0) (getD zs i 0) (getD Ts j 0) (getD qs j 0) (getD zs j 0)
 
@@ -41,48 +41,51 @@ module _ (Ts qs zs : List ℕ) (ha : Harmonic Ts) (pos : Positive qs (length Ts)
   never-ordered i j hi hj le n = apart-complete _ _ _ _ _ _ (ha .divides i j hi hj le) (ha .positive j hj) (pos i hi) (pos j hj) n
 
   -- two probes inside the width, with no cell in common, never meet
-  pub pair-never : (i j : ℕ) → i < length Ts → j < length Ts
+  pub pair-never : (i j : ℕ) → i < length Ts → j < length Ts → getD zs i 0 < getD Ts i 0 → getD zs j 0 < getD Ts j 0
       → cornerX Ts (getD zs i 0) + getD qs i 0 ≤ shortest Ts → cornerX Ts (getD zs j 0) + getD qs j 0 ≤ shortest Ts
       → ((c r : ℕ) → CoversAt Ts qs zs i c r → CoversAt Ts qs zs j c r → ⊥) → Never i j
-  pair-never i j hi hj fi fj none = by (decLe (getD Ts i 0) (getD Ts j 0))
+  pair-never i j hi hj bi bj fi fj none = by (decLe (getD Ts i 0) (getD Ts j 0))
     where
       by : Dec (getD Ts i 0 ≤ getD Ts j 0) → Never i j
       by (yes le) =
-          ordered-never i j hi hj le (cells-apart Ts ha i j hi hj le (getD zs i 0) (getD zs j 0) (below i hi) (getD qs i 0) (getD qs j 0) (pos i hi) (pos j hj) fi fj none)
+          ordered-never i j hi hj le (cells-apart Ts ha i j hi hj le (getD zs i 0) (getD zs j 0) bi (getD qs i 0) (getD qs j 0) (pos i hi) (pos j hj) fi fj none)
       by (no le) =
           let ge : getD Ts j 0 ≤ getD Ts i 0 = omega arith in
           never-meet-swap _ _ _ _ _ _
-          (ordered-never j i hj hi ge (cells-apart Ts ha j i hj hi ge (getD zs j 0) (getD zs i 0) (below j hj) (getD qs j 0) (getD qs i 0) (pos j hj) (pos i hi) fj fi (λ c r a b. none c r b a)))
+          (ordered-never j i hj hi ge (cells-apart Ts ha j i hj hi ge (getD zs j 0) (getD zs i 0) bj (getD qs j 0) (getD qs i 0) (pos j hj) (pos i hi) fj fi (λ c r a b. none c r b a)))
 
-  pub never-pair : (i j : ℕ) → i < length Ts → j < length Ts
+  pub never-pair : (i j : ℕ) → i < length Ts → j < length Ts → getD zs i 0 < getD Ts i 0 → getD zs j 0 < getD Ts j 0
       → cornerX Ts (getD zs i 0) + getD qs i 0 ≤ shortest Ts → cornerX Ts (getD zs j 0) + getD qs j 0 ≤ shortest Ts
       → Never i j → (c r : ℕ) → CoversAt Ts qs zs i c r → CoversAt Ts qs zs j c r → ⊥
-  never-pair i j hi hj fi fj n c r a b = by (decLe (getD Ts i 0) (getD Ts j 0))
+  never-pair i j hi hj bi bj fi fj n c r a b = by (decLe (getD Ts i 0) (getD Ts j 0))
     where
       by : Dec (getD Ts i 0 ≤ getD Ts j 0) → ⊥
       by (yes le) =
-          apart-cells Ts ha i j hi hj le (getD zs i 0) (getD zs j 0) (below i hi) (getD qs i 0) (getD qs j 0) (pos i hi) (pos j hj) fi fj (never-ordered i j hi hj le n) c r a b
+          apart-cells Ts ha i j hi hj le (getD zs i 0) (getD zs j 0) bi (getD qs i 0) (getD qs j 0) (pos i hi) (pos j hj) fi fj (never-ordered i j hi hj le n) c r a b
       by (no le) =
           let ge : getD Ts j 0 ≤ getD Ts i 0 = omega arith in
-          apart-cells Ts ha j i hj hi ge (getD zs j 0) (getD zs i 0) (below j hj) (getD qs j 0) (getD qs i 0) (pos j hj) (pos i hi) fj fi
+          apart-cells Ts ha j i hj hi ge (getD zs j 0) (getD zs i 0) bj (getD qs j 0) (getD qs i 0) (pos j hj) (pos i hi) fj fi
           (never-ordered j i hj hi ge (never-meet-swap _ _ _ _ _ _ n)) c r b a
-
-  pub packed-clean : Inside Ts qs zs → NoOverlap Ts qs zs → Clean Ts qs zs
-  packed-clean inside none t i j hi hj a b = by (ℕ-discrete i j)
-    where
-      by : Dec (i ≡ j) → i ≡ j
-      by (yes e) = e
-      by (no ne) = absurd (pair-never i j hi hj (inside i hi) (inside j hj) (λ c r p q. ne (none i j c r hi hj p q)) t a b)
 
   clean-never : Clean Ts qs zs → (i j : ℕ) → i < length Ts → j < length Ts → i ≢ j → Never i j
   clean-never clean i j hi hj ne t a b = ne (clean t i j hi hj a b)
 
-  pub clean-packed : Inside Ts qs zs → Clean Ts qs zs → NoOverlap Ts qs zs
-  clean-packed inside clean i j c r hi hj a b = by (ℕ-discrete i j)
+  abbrev BelowAll : Type 0
+  BelowAll = (i : ℕ) → i < length Ts → getD zs i 0 < getD Ts i 0
+
+  pub packed-clean : BelowAll → Inside Ts qs zs → NoOverlap Ts qs zs → Clean Ts qs zs
+  packed-clean below inside none t i j hi hj a b = by (ℕ-discrete i j)
     where
       by : Dec (i ≡ j) → i ≡ j
       by (yes e) = e
-      by (no ne) = absurd (never-pair i j hi hj (inside i hi) (inside j hj) (clean-never clean i j hi hj ne) c r a b)
+      by (no ne) = absurd (pair-never i j hi hj (below i hi) (below j hj) (inside i hi) (inside j hj) (λ c r p q. ne (none i j c r hi hj p q)) t a b)
+
+  pub clean-packed : BelowAll → Inside Ts qs zs → Clean Ts qs zs → NoOverlap Ts qs zs
+  clean-packed below inside clean i j c r hi hj a b = by (ℕ-discrete i j)
+    where
+      by : Dec (i ≡ j) → i ≡ j
+      by (yes e) = e
+      by (no ne) = absurd (never-pair i j hi hj (below i hi) (below j hj) (inside i hi) (inside j hj) (clean-never clean i j hi hj ne) c r a b)
 
   pub clean-inside : (f : ℕ) → f < length Ts → getD Ts f 0 ≡ shortest Ts → getD zs f 0 ≡ 0 → ((i : ℕ) → i < length Ts → getD qs i 0 ≤ shortest Ts)
       → Clean Ts qs zs → Inside Ts qs zs
@@ -123,7 +126,7 @@ packs-clean Ts ps qs ss ha same pos short-reads below = (sound, complete)
     inside-of clean i h =
         let some : 0 < length Ts = omega arith in
         let f = first-is Ts ps some .probe in
-        clean-inside Ts qs (moved (origin Ts ps ss) Ts ss) ha pos turned (first Ts ps) f (first-shortest Ts ps some)
+        clean-inside Ts qs (moved (origin Ts ps ss) Ts ss) ha pos (first Ts ps) f (first-shortest Ts ps some)
         (moved-at (origin Ts ps ss) Ts ss (first Ts ps) f (omega arith) ∙ still (getD Ts (first Ts ps) 0) (getD ss (first Ts ps) 0) (ha .positive (first Ts ps) f)) short-reads clean i h
       where
         still : (T s : ℕ) → 0 < T → lag T s s ≡ 0
