@@ -1,4 +1,4 @@
--- `chain::decompose` meets its contract. The loop's invariant: the first i digits stand in d, and rest has the others. The measure is what is left of the twelve.
+-- `chain::decompose` meets its contract. The loop's invariant: the first digits, as many as place says, stand in d, and rest has the others. The measure is what is left of the twelve.
 -- Assumes nothing.
 use borrow.Author.Needs.{needs}
 use native.Mathlib.Omega.{arith}
@@ -9,10 +9,10 @@ use Rattle.chain.proofs.decompose.Statement.{statement}
 use Rattle.chain.proofs.decompose.Tie as tie
 
 abbrev Inv-loop : tie.InvT-loop
-Inv-loop v ratios d₀ rest₀ i₀ d rest i = Decomposing ratios v d rest i
+Inv-loop v ratios d₀ rest₀ place₀ d rest place = Decomposing ratios v d rest place
 
 abbrev μ-loop : tie.MeasureT-loop
-μ-loop v ratios d₀ rest₀ i₀ d rest i = mostRatios - i
+μ-loop v ratios d₀ rest₀ place₀ d rest place = mostRatios - place
 
 loop-holds : tie.Need-loop-holds Inv-loop μ-loop
 loop-holds c = search needs
@@ -24,7 +24,7 @@ array-read-b : tie.Need-array-read-b Inv-loop μ-loop
 array-read-b c = search needs
 
 rem-d : tie.Need-rem-d Inv-loop μ-loop
-rem-d c = positive-at _ (c .before .loop .i) (c .before .before .pre) (omega arith)
+rem-d c = positive-at _ (c .before .loop .place) (c .before .before .pre) (omega arith)
 
 mul-d : tie.Need-mul-d Inv-loop μ-loop
 mul-d c = search needs
@@ -33,10 +33,10 @@ array-write-d : tie.Need-array-write-d Inv-loop μ-loop
 array-write-d c = search needs
 
 div-rest : tie.Need-div-rest Inv-loop μ-loop
-div-rest c = positive-at _ (c .before .loop .i) (c .before .before .pre) (omega arith)
+div-rest c = positive-at _ (c .before .loop .place) (c .before .before .pre) (omega arith)
 
-add-i : tie.Need-add-i Inv-loop μ-loop
-add-i c = search needs
+add-place : tie.Need-add-place Inv-loop μ-loop
+add-place c = search needs
 
 loop-less : tie.Need-loop-less Inv-loop μ-loop
 loop-less c = search needs
@@ -44,12 +44,12 @@ loop-less c = search needs
 loop-again : tie.Need-loop-again Inv-loop μ-loop
 loop-again c =
     let l = c .before .loop in
-    decomposing-next _ _ (l .d) (l .rest) (l .i) (l .inv) (omega arith)
+    decomposing-next _ _ (l .d) (l .rest) (l .place) (l .inv) (omega arith)
 
 returns : tie.Need-returns Inv-loop μ-loop
 returns c =
     let l = c .before .loop in
-    decomposing-done _ _ (l .d) (l .rest) (l .i) (l .inv) (omega arith)
+    decomposing-done _ _ (l .d) (l .rest) (l .place) (l .inv) (omega arith)
 
 pub decompose-spec : {M : Type 1} → statement M
 decompose-spec =
@@ -64,7 +64,7 @@ decompose-spec =
     mul-d
     array-write-d
     div-rest
-    add-i
+    add-place
     loop-less
     loop-again
     returns)
