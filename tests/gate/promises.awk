@@ -57,6 +57,10 @@ part == 1 { next }
         short = asked
         sub(/.*::/, "", short)
         read_cell(cell[3], 1)
+        if (cell[3] ~ /^ none yet $/) {
+            for (call in function_at) if (calls[call] ~ ("[ :]" short " ")) wrong(call " calls " asked ", and the row says none yet")
+            next
+        }
         if (count == 0) wrong("no proved caller of " asked " is named")
         for (k = 1; k <= count; k++) if (named[k] in function_at && calls[named[k]] !~ ("[ :]" short " ")) wrong(named[k] " does not call " asked)
         next

@@ -97,15 +97,34 @@ seven-clean =
 
 pub bench : AllTrue cases
 unfolding anyBelow lowest lowestFrom firstOf leastOf greatestOf shortest longest rows widths divides chained badPeriod badLength unchained late findings listFindings verdict lag apart sharedTick apartAt tickAt partner opener meetingOf checked product digits turned levels bytes value word byteSum placeSum blocksOf recordsOf recordsFrom bodyOf blockOf blocksFrom bookOf letters digitsThen decimal spaced printedLine answerLine startText probeLines planText
-bench =
-    (flip-computes (2 ∷ 2 ∷ 3 ∷ []) 12 10,
-    ((plan-five, ap (planText five (3 ∷ 4 ∷ 5 ∷ 2 ∷ 3 ∷ [])) plan-five),
-    ((plan-six, ap (planText six (3 ∷ 4 ∷ 5 ∷ 2 ∷ 3 ∷ 3 ∷ [])) plan-six),
-    (refl,
-    ((plan-full, ap (planText full (6 ∷ 5 ∷ [])) plan-full),
-    ((plan-even, ap (planText even (6 ∷ 4 ∷ [])) plan-even),
-    ((plan-seven, ap (planText seven (2 ∷ 2 ∷ 2 ∷ 4 ∷ 4 ∷ 4 ∷ 4 ∷ [])) plan-seven),
-    (seven-clean,
-    (refl,
-    ((plan-one, ap (planText one (10 ∷ [])) plan-one),
-    (refl, (refl, (refl, (refl, ((refl, refl), tt)))))))))))))))
+bench = (
+  flip-computes (2 ∷ 2 ∷ 3 ∷ []) 12 10,
+  (
+    (plan-five, ap (planText five (3 ∷ 4 ∷ 5 ∷ 2 ∷ 3 ∷ [])) plan-five),
+    (
+      (plan-six, ap (planText six (3 ∷ 4 ∷ 5 ∷ 2 ∷ 3 ∷ 3 ∷ [])) plan-six),
+      (
+        refl,
+        (
+          (plan-full, ap (planText full (6 ∷ 5 ∷ [])) plan-full),
+          (
+            (plan-even, ap (planText even (6 ∷ 4 ∷ [])) plan-even),
+            (
+              (plan-seven, ap (planText seven (2 ∷ 2 ∷ 2 ∷ 4 ∷ 4 ∷ 4 ∷ 4 ∷ [])) plan-seven),
+              (
+                seven-clean,
+                (
+                  refl,
+                  (
+                    (plan-one, ap (planText one (10 ∷ [])) plan-one),
+                    (refl, (refl, (refl, (refl, ((refl, refl), tt))))),
+                  ),
+                ),
+              ),
+            ),
+          ),
+        ),
+      ),
+    ),
+  ),
+)

@@ -88,13 +88,13 @@ module _ (Ts : List ℕ) where
 -- the starts of the placed ones are all that matters of the column
 placing-same : (Ts qs ds ss zs fs : List ℕ) → ((k : ℕ) → In k ds → getD zs k 0 ≡ getD ss k 0) → Placing Ts qs ds ss fs → Placing Ts qs ds zs fs
 placing-same Ts qs ds ss zs fs same g = record {
-      long = g .long;
-      low = g .low;
-      level = g .level;
-      stands = λ i m. let s = g .stands i m in record { probe = s .probe; below = rw (same i m) (s .below); under = rw (same i m) (s .under) };
-      apart = λ i j m o ne c r a b. g .apart i j m o ne c r (rw (same i m) at a) (rw (same j o) at b);
-      count = g .count;
-    }
+  long = g .long;
+  low = g .low;
+  level = g .level;
+  stands = λ i m. let s = g .stands i m in record { probe = s .probe; below = rw (same i m) (s .below); under = rw (same i m) (s .under) };
+  apart = λ i j m o ne c r a b. g .apart i j m o ne c r (rw (same i m) at a) (rw (same j o) at b);
+  count = g .count;
+}
 
 -- a probe for which no sub-bin had room
 pub record Stuck (Ts qs ds is ended : List ℕ) (o : Outcome) (i : ℕ) : Type 0 where
@@ -119,8 +119,15 @@ module _ (Ts qs : List ℕ) (ha : Harmonic Ts) (pos : Positive qs (length Ts)) w
   pub fitted-holds : (is ds ss fs : List ℕ) → Coming Ts ds is → length Ts ≤ length ss → Placing Ts qs ds ss fs → Fitted Ts qs ds is ss (fitted Ts qs is ss fs)
   unfolding fitted In Coming
   fitted-holds [] ds ss fs c room g = record {
-        ended = ds; placing = g; kept = λ k m. m; only = λ k m. inl m; rest = λ k m. absurd m; other = λ k n. refl; long = refl; way = inl (refl, λ k m. absurd m);
-      }
+    ended = ds;
+    placing = g;
+    kept = λ k m. m;
+    only = λ k m. inl m;
+    rest = λ k m. absurd m;
+    other = λ k n. refl;
+    long = refl;
+    way = inl (refl, λ k m. absurd m);
+  }
   fitted-holds (i ∷ is) ds ss fs (probe, new, tall, c) room g =
       by (ltb (binOf Ts qs i fs) (bins fs (height Ts (getD Ts i 0)))) refl (fitted-holds is (i ∷ ds) (set ss i (startIn Ts qs i fs (binOf Ts qs i fs))) (raised fs (binOf Ts qs i fs * height Ts (getD Ts i 0)) (height Ts (getD Ts i 0)) (getD qs i 0)) c (rw (length-set ss i (startIn Ts qs i fs (binOf Ts qs i fs))) room))
     where
@@ -138,15 +145,15 @@ module _ (Ts qs : List ℕ) (ha : Harmonic Ts) (pos : Positive qs (length Ts)) w
 
       on : Fitted Ts qs (i ∷ ds) is (set ss i (startIn Ts qs i fs (binOf Ts qs i fs))) next → Fitted Ts qs ds (i ∷ is) ss next
       on f = record {
-            ended = f .ended;
-            placing = f .placing;
-            kept = λ k m. f .kept k (inr m);
-            only = λ k m. only-of k (f .only k m);
-            rest = rest-of;
-            other = λ k n. f .other k (λ m. n (inr m)) ∙ getD-set-other ss i k (startIn Ts qs i fs (binOf Ts qs i fs)) 0 (λ e. n (inl e));
-            long = f .long ∙ length-set ss i (startIn Ts qs i fs (binOf Ts qs i fs));
-            way = way-of (f .way);
-          }
+        ended = f .ended;
+        placing = f .placing;
+        kept = λ k m. f .kept k (inr m);
+        only = λ k m. only-of k (f .only k m);
+        rest = rest-of;
+        other = λ k n. f .other k (λ m. n (inr m)) ∙ getD-set-other ss i k (startIn Ts qs i fs (binOf Ts qs i fs)) 0 (λ e. n (inl e));
+        long = f .long ∙ length-set ss i (startIn Ts qs i fs (binOf Ts qs i fs));
+        way = way-of (f .way);
+      }
         where
           only-of : (k : ℕ) → In k (i ∷ ds) ⊎ In k is → In k ds ⊎ In k (i ∷ is)
           only-of k (inl (inl e)) = inr (inl e)
@@ -171,20 +178,25 @@ module _ (Ts qs : List ℕ) (ha : Harmonic Ts) (pos : Positive qs (length Ts)) w
 
       halt : bins fs (height Ts (getD Ts i 0)) ≤ binOf Ts qs i fs → Fitted Ts qs ds (i ∷ is) ss stop
       halt full = record {
-            ended = ds;
-            placing = placing-same Ts qs ds ss (marked (i ∷ is) ss) fs (λ k m. marked-other (i ∷ is) ss k (λ o. clash k o m)) g;
-            kept = λ k m. m;
-            only = λ k m. inl m;
-            rest = λ k m. inr (marked-at (i ∷ is) ss k m (omega (arith, coming-probe Ts ds (i ∷ is) (probe, new, tall, c) k m)));
-            other = λ k n. marked-other (i ∷ is) ss k n;
-            long = length-marked (i ∷ is) ss;
-            way = inr (i, record {
-                named = refl; one = inl refl; unplaced = new;
-                no-room = λ j l. found .passed j (omega arith);
-                tall = tall;
-                weight = unfold sumOf in omega (arith, g .count);
-              });
-          }
+        ended = ds;
+        placing = placing-same Ts qs ds ss (marked (i ∷ is) ss) fs (λ k m. marked-other (i ∷ is) ss k (λ o. clash k o m)) g;
+        kept = λ k m. m;
+        only = λ k m. inl m;
+        rest = λ k m. inr (marked-at (i ∷ is) ss k m (omega (arith, coming-probe Ts ds (i ∷ is) (probe, new, tall, c) k m)));
+        other = λ k n. marked-other (i ∷ is) ss k n;
+        long = length-marked (i ∷ is) ss;
+        way = inr (
+          i,
+          record {
+            named = refl;
+            one = inl refl;
+            unplaced = new;
+            no-room = λ j l. found .passed j (omega arith);
+            tall = tall;
+            weight = unfold sumOf in omega (arith, g .count);
+          },
+        );
+      }
         where
           clash : (k : ℕ) → In k (i ∷ is) → In k ds → ⊥
           clash k o m = coming-new Ts ds (i ∷ is) (probe, new, tall, c) k o m

@@ -52,14 +52,14 @@ sum-none (suc n) = omega (arith, sum-none n)
 pub placing-start : (Ts qs ss : List ℕ) → Placing Ts qs [] ss (replicate (rows Ts) 0)
 unfolding In sumOf
 placing-start Ts qs ss = record {
-      long = length-replicate {A = ℕ} (rows Ts) 0;
-      low = λ r h. rw (getD-replicate {A = ℕ} (rows Ts) r 0 0 h) (omega arith);
-      level = λ h all r s hr hs e.
-          getD-replicate {A = ℕ} (rows Ts) r 0 0 (rw (length-replicate {A = ℕ} (rows Ts) 0) at hr) ∙ sym (getD-replicate {A = ℕ} (rows Ts) s 0 0 (rw (length-replicate {A = ℕ} (rows Ts) 0) at hs));
-      stands = λ i h. absurd h;
-      apart = λ i j h. absurd h;
-      count = sum-none (rows Ts);
-    }
+  long = length-replicate {A = ℕ} (rows Ts) 0;
+  low = λ r h. rw (getD-replicate {A = ℕ} (rows Ts) r 0 0 h) (omega arith);
+  level = λ h all r s hr hs e.
+      getD-replicate {A = ℕ} (rows Ts) r 0 0 (rw (length-replicate {A = ℕ} (rows Ts) 0) at hr) ∙ sym (getD-replicate {A = ℕ} (rows Ts) s 0 0 (rw (length-replicate {A = ℕ} (rows Ts) 0) at hs));
+  stands = λ i h. absurd h;
+  apart = λ i j h. absurd h;
+  count = sum-none (rows Ts);
+}
 
 -- a fill never falls
 raised-more : (fs : List ℕ) (y h q : ℕ) → y + h ≤ length fs → (r : ℕ) → getD fs r 0 ≤ getD (raised fs y h q) r 0
@@ -128,13 +128,13 @@ module _ (Ts qs ds ss fs : List ℕ) (ha : Harmonic Ts) (pos : Positive qs (leng
 
   new-stands : Stands Ts qs after filled i
   new-stands = record {
-        probe = hi;
-        below = rw start-is (start-below Ts ha i hi x y on-grid);
-        under = λ r lo up.
-            let lo′ : y ≤ r = rw new-y at lo in
-            let up′ : r < y + h = rw new-y at up in
-            (omega (arith, in-rows, g .long), rw (new-x, raised-in fs y h q in-rows r lo′ up′, one-fill r lo′ up′) (omega arith));
-      }
+    probe = hi;
+    below = rw start-is (start-below Ts ha i hi x y on-grid);
+    under = λ r lo up.
+        let lo′ : y ≤ r = rw new-y at lo in
+        let up′ : r < y + h = rw new-y at up in
+        (omega (arith, in-rows, g .long), rw (new-x, raised-in fs y h q in-rows r lo′ up′, one-fill r lo′ up′) (omega arith));
+  }
 
   old-stands : (k : ℕ) → In k ds → Stands Ts qs after filled k
   old-stands k m =
@@ -159,13 +159,13 @@ module _ (Ts qs ds ss fs : List ℕ) (ha : Harmonic Ts) (pos : Positive qs (leng
   pub placing-step : Placing Ts qs (i ∷ ds) after filled
   unfolding In sumOf
   placing-step = record {
-        long = filled-long ∙ g .long;
-        low = λ r hr. lower r hr (decLe y r) (decLt r (y + h));
-        level = λ k all. level-raised k h j q fs h-positive (all i (inl refl)) in-rows (g .level k (λ d m. all d (inr m)));
-        stands = standing;
-        apart = parted;
-        count = sum-raised fs y h q in-rows ∙ omega (arith, g .count);
-      }
+    long = filled-long ∙ g .long;
+    low = λ r hr. lower r hr (decLe y r) (decLt r (y + h));
+    level = λ k all. level-raised k h j q fs h-positive (all i (inl refl)) in-rows (g .level k (λ d m. all d (inr m)));
+    stands = standing;
+    apart = parted;
+    count = sum-raised fs y h q in-rows ∙ omega (arith, g .count);
+  }
     where
       lower : (r : ℕ) → r < rows Ts → Dec (y ≤ r) → Dec (r < y + h) → getD filled r 0 ≤ shortest Ts
       lower r hr (yes lo) (yes up) = rw (raised-in fs y h q in-rows r lo up, one-fill r lo up) room

@@ -127,8 +127,8 @@ module _ (Ts ps qs ss : List ℕ) (ha : Harmonic Ts) (pos : Positive qs (length 
         let j : ℕ = r / tall in
         let bin : j < bins (o .fills) tall = rw many (div-lt-iff-lt-mul (height-positive Ts ha i probe) .1 (rw (mul-comm (getD Ts i 0 / shortest Ts) tall, ← rows-slots Ts ha i probe) hr)) in
         let same : getD (o .fills) r 0 ≡ getD (o .fills) (j * tall) 0 =
-            fit-holds .placing .level tall (s .tall) r (j * tall) (rw (fit-holds .placing .long) hr) (rw (fit-holds .placing .long) (omega (arith, div-mul-le-self r tall)))
-            (sym (mul-div-cancel (r / tall) (height-positive Ts ha i probe))) in
+        fit-holds .placing .level tall (s .tall) r (j * tall) (rw (fit-holds .placing .long) hr) (rw (fit-holds .placing .long) (omega (arith, div-mul-le-self r tall)))
+        (sym (mul-div-cancel (r / tall) (height-positive Ts ha i probe))) in
         over (decLe (getD (o .fills) (j * tall) 0 + getD qs i 0) (shortest Ts)) same (s .no-room j bin)
       where
         over : {x y : ℕ} → Dec (y + getD qs i 0 ≤ shortest Ts) → x ≡ y → (y + getD qs i 0 ≤ shortest Ts → ⊥) → shortest Ts < x + getD qs i 0
