@@ -1,17 +1,19 @@
 #!/bin/sh
-# Planner and checker know the flip by its laws alone: it is shut, and the module that computes it, chain's Formula, is for bench_sheet and demands.
+# Planner and checker know the flip by its laws alone: it is shut. Of the modules that open it, chain's Formula is for bench_sheet and demands, and
+# chain's Flip.Steps for the proofs of the two functions that compute it.
 . "$(dirname "$0")/common"
 look() {
     [ -d crates/chain ] || { echo "there is no crate chain"; return 0; }
     { theory; sources; } >"$room/all"
     while IFS= read -r file; do
         case $file in
-        crates/bench_sheet/* | crates/demands/* | crates/chain/specs/Formula.antt | crates/chain/specs/Lib.antt) continue ;;
+        crates/bench_sheet/* | crates/demands/* | crates/chain/specs/Flip.antt | crates/chain/specs/Flip/*) continue ;;
+        crates/chain/proofs/Chain/flip/* | crates/chain/proofs/Chain/unflip/*) continue ;;
         esac
         awk '
             { sub(/(^|[ \t])(--|\/\/).*/, "") }
             FILENAME ~ /^crates\/chain\// || /Rattle.chain/ { near = 1 }
-            /(^|[^A-Za-z0-9_])Formula([^A-Za-z0-9_]|$)/ { if (near) print FILENAME ":" FNR ": it names chain'"'"'s Formula, which opens the flip" }
+            /(^|[^A-Za-z0-9_])Formula([^A-Za-z0-9_]|$)/ || /Flip\.Steps/ { if (near) print FILENAME ":" FNR ": it names a module of chain that opens the flip" }
         ' "$file"
     done <"$room/all"
     find crates/chain -name '*.antt' | sort >"$room/chain"

@@ -1,4 +1,4 @@
-# Of a .rt file, outside comments, strings and the text of contracts: constant|crate::Type::NAME|value for each `pub const` of an impl,
+# Of a .rt file, outside comments, strings and the text of contracts: constant|crate::Type::NAME|value for each `const` of an impl,
 # and literal|crate|value|file:line for every other number.
 BEGIN { FS = "\n" }
 FNR == 1 { crate = FILENAME; sub(/^crates\//, "", crate); sub(/\/.*/, "", crate) }
@@ -35,9 +35,9 @@ function value(s,    n, k) {
     sub(/\/\/.*/, "", line)
     if (line ~ /^impl /) { type = line; sub(/^impl +/, "", type); sub(/[^A-Za-z0-9_].*/, "", type) }
     if (line ~ /^}/) type = ""
-    if (type != "" && match(line, /^ +pub const [A-Z0-9_]+: [a-z0-9]+ = [0-9][0-9a-zA-Z_]*;/)) {
+    if (type != "" && match(line, /^ +(pub )?const [A-Z0-9_]+: [a-z0-9]+ = [0-9][0-9a-zA-Z_]*;/)) {
         name = line
-        sub(/^ +pub const /, "", name)
+        sub(/^ +(pub )?const /, "", name)
         sub(/:.*/, "", name)
         sub(/.* = /, "", line)
         sub(/;.*/, "", line)

@@ -58,7 +58,9 @@ part == 1 { next }
         sub(/.*::/, "", short)
         read_cell(cell[3], 1)
         if (cell[3] ~ /^ none yet $/) {
-            for (call in function_at) if (calls[call] ~ ("[ :]" short " ")) wrong(call " calls " asked ", and the row says none yet")
+            path = asked
+            sub(/^[a-z_0-9]*::/, "", path)
+            for (call in function_at) if (calls[call] ~ ("[ :]" path " ")) wrong(call " calls " asked ", and the row says none yet")
             next
         }
         if (count == 0) wrong("no proved caller of " asked " is named")
