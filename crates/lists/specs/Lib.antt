@@ -7,3 +7,4 @@ pub mod Harmonic
 pub mod Doubling
 pub mod Sums
 pub mod Members
+pub mod Counted
