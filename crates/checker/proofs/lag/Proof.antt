@@ -1,0 +1,24 @@
+-- `checker::lag` meets its contract. Assumes nothing.
+use mathlib.Core.Path.{_≡_}
+use native.Mathlib.Omega.{arith}
+use Rattle.checker.specs.Steps.{lag-is}
+use borrow.Author.Needs.{needs}
+use Rattle.checker.proofs.lag.Statement.{statement}
+use Rattle.checker.proofs.lag.Tie as tie
+use Rattle.checker.proofs.lag.Reads as reads
+use Rattle.checker.proofs.lag.Lts as lts
+
+sub-result : tie.Need-sub-result
+sub-result c = search needs
+
+add-result : tie.Need-add-result
+add-result c = search needs
+
+rem-result : tie.Need-rem-result
+rem-result c = search needs
+
+returns : tie.Need-returns
+returns c = lag-is (c .args .t) (c .args .s) (c .args .u) (c .pre .0)
+
+pub lag-spec : {M : Type 1} → statement M
+lag-spec = tie.close (tie.spec sub-result add-result rem-result returns)
