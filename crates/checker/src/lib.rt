@@ -40,7 +40,7 @@ impl Probe {
     }
 }
 
-// Whether two probes never meet, the shorter period first: the published condition, q <= d and d + r <= t.
+// Whether two probes never meet, the shorter period first: the published condition.
 fn apart(one: Probe, other: Probe) -> bool
     requires { ⌜ Ordered one other ⌝ }
     ensures { λ b. ⌜ b ≡ apartOf one other ⌝ }
@@ -49,10 +49,10 @@ fn apart(one: Probe, other: Probe) -> bool
     let q = one.width;
     let r = other.width;
     let d = lag(t, one.start, other.start);
-    if d < q {
-        return false;
+    if q <= d {
+        return d + r <= t;
     }
-    d + r <= t
+    false
 }
 
 // The first tick that they share where they are not apart: the longer one's read begins in a read, or runs into the next;
@@ -66,6 +66,7 @@ fn shared_tick(one: Probe, other: Probe) -> u32
     let s = one.start;
     let r = other.width;
     let u = other.start;
+    let v = other.period;
     let d = lag(t, s, u);
     if s <= u {
         if d < q {
@@ -76,7 +77,7 @@ fn shared_tick(one: Probe, other: Probe) -> u32
     if s < u + r {
         return s;
     }
-    u + other.period
+    u + v
 }
 
 // Whether probes i and j never meet: d is taken by the shorter period.

@@ -13,23 +13,23 @@ use Rattle.checker.proofs.lag.Reads as lag-reads
 lag-requires : tie.Need-lag-requires
 lag-requires c κs = search needs
 
-returns : tie.Need-returns
-returns c =
-    let a = c .before .before .args .one in
-    let b = c .before .before .args .other in
-    apart-early a b _ (c .before .lag .ensures) (omega arith)
-
 add-result : tie.Need-add-result
 add-result c =
     let a = c .before .before .args .one in
     let b = c .before .before .args .other in
     omega (arith, c .before .lag .ensures, lag-lt (a .period) (a .start) (b .start) (omega arith))
 
-returns-2 : tie.Need-returns-2
-returns-2 c =
+returns : tie.Need-returns
+returns c =
     let a = c .before .before .args .one in
     let b = c .before .before .args .other in
     apart-is a b _ (c .before .lag .ensures) (omega arith)
 
+returns-2 : tie.Need-returns-2
+returns-2 c =
+    let a = c .before .before .args .one in
+    let b = c .before .before .args .other in
+    apart-early a b _ (c .before .lag .ensures) (omega arith)
+
 pub apart-spec : {M : Type 1} → statement M
-apart-spec = tie.close (tie.spec lag-requires returns add-result returns-2)
+apart-spec = tie.close (tie.spec lag-requires add-result returns returns-2)

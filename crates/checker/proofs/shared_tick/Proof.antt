@@ -51,8 +51,8 @@ add-result-2 c = search needs
 
 returns-4 : tie.Need-returns-4
 returns-4 c =
-    let a = c .before .before .before .before .args .one in
-    let b = c .before .before .before .before .args .other in
+    let a = c .before .before .before .args .one in
+    let b = c .before .before .before .args .other in
     tick-second a b (omega arith) (omega arith)
 
 pub shared-tick-spec : {M : Type 1} → statement M
