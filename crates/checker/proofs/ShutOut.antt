@@ -2,14 +2,15 @@
 --     claim Ts ps ss right wrong   a list, the answer that the promise has for it, and what a shortcut says
 --     Settled c                    the right answer meets the promise, and the wrong one does not
 --     check-shuts-out              every claim of the table is settled so
+--     check-not-one                no answer serves all lists
 -- Assumes nothing.
 use mathlib.Core.Path.{_≡_, refl, sym, ap, _∙_}
 use mathlib.Core.Bool.{Bool, true, false, not}
 use mathlib.Core.List.{List, [], _∷_}
 use Prim.Native.Nat.{ℕ}
+use native.Mathlib.Omega.{arith}
 use lib.Dec.{eqb}
-use borrow.Author.Tests.{eq-eqb}
-use Rattle.lists.specs.Pick.{pick, both, Tells, anyBelow}
+use Rattle.lists.specs.Pick.{both, Tells, anyBelow}
 use Rattle.lists.specs.Telling.{tells-both, tells-eq, tells-as, tells-not, true-or-false}
 use Rattle.lists.specs.Lowest.{lowest, lowestFrom}
 use Rattle.lists.specs.Answering.{firstOf}
@@ -35,27 +36,27 @@ claim Ts ps ss right wrong = record { periods = Ts; lengths = ps; starts = ss; r
 abbrev pub claims : List Claim
 claims =
     -- "always 0": one verdict for all lists
-    claim (10 ∷ 10 ∷ []) (6 ∷ 5 ∷ []) (0 ∷ 5 ∷ []) (pair 10 0 1 5) (done)
+    claim (10 ∷ 10 ∷ []) (6 ∷ 5 ∷ []) (0 ∷ 5 ∷ []) (pair 10 0 1 5) done
     -- "always 10": one verdict for all lists
-    ∷ claim (10 ∷ 10 ∷ []) (6 ∷ 4 ∷ []) (0 ∷ 6 ∷ []) (done) (pair 10 0 1 0)
+    ∷ claim (10 ∷ 10 ∷ []) (6 ∷ 4 ∷ []) (0 ∷ 6 ∷ []) done (pair 10 0 1 0)
     -- the longer probe's first read taken as the meeting
     ∷ claim (10 ∷ 20 ∷ []) (5 ∷ 1 ∷ []) (8 ∷ 1 ∷ []) (pair 10 0 1 21) (pair 10 0 1 1)
     -- only the first longest period compared
-    ∷ claim (10 ∷ 20 ∷ []) (5 ∷ 1 ∷ []) (8 ∷ 1 ∷ []) (pair 10 0 1 21) (done)
+    ∷ claim (10 ∷ 20 ∷ []) (5 ∷ 1 ∷ []) (8 ∷ 1 ∷ []) (pair 10 0 1 21) done
     -- by rectangles without the move
-    ∷ claim (10 ∷ []) (5 ∷ []) (8 ∷ []) (done) (refused 10 0)
+    ∷ claim (10 ∷ []) (5 ∷ []) (8 ∷ []) done (refused 10 0)
     -- d with the wrong sign
-    ∷ claim (10 ∷ 10 ∷ []) (3 ∷ 5 ∷ []) (0 ∷ 4 ∷ []) (done) (pair 10 0 1 8)
+    ∷ claim (10 ∷ 10 ∷ []) (3 ∷ 5 ∷ []) (0 ∷ 4 ∷ []) done (pair 10 0 1 8)
     -- d by the longer period
-    ∷ claim (20 ∷ 10 ∷ []) (1 ∷ 5 ∷ []) (1 ∷ 8 ∷ []) (pair 10 0 1 21) (done)
+    ∷ claim (20 ∷ 10 ∷ []) (1 ∷ 5 ∷ []) (1 ∷ 8 ∷ []) (pair 10 0 1 21) done
     -- the pair by period
     ∷ claim (20 ∷ 10 ∷ []) (1 ∷ 5 ∷ []) (1 ∷ 8 ∷ []) (pair 10 0 1 21) (pair 10 1 0 21)
     -- the earliest of all meetings
     ∷ claim (10 ∷ 10 ∷ 10 ∷ []) (2 ∷ 2 ∷ 5 ∷ []) (8 ∷ 4 ∷ 5 ∷ []) (pair 10 0 2 8) (pair 10 1 2 5)
     -- off by one at p = d
-    ∷ claim (10 ∷ 10 ∷ []) (4 ∷ 3 ∷ []) (0 ∷ 4 ∷ []) (done) (pair 10 0 1 4)
+    ∷ claim (10 ∷ 10 ∷ []) (4 ∷ 3 ∷ []) (0 ∷ 4 ∷ []) done (pair 10 0 1 4)
     -- off by one at d = T - p
-    ∷ claim (10 ∷ 10 ∷ []) (4 ∷ 3 ∷ []) (0 ∷ 7 ∷ []) (done) (pair 10 0 1 10)
+    ∷ claim (10 ∷ 10 ∷ []) (4 ∷ 3 ∷ []) (0 ∷ 7 ∷ []) done (pair 10 0 1 10)
     -- a made-up tick
     ∷ claim (10 ∷ 10 ∷ []) (6 ∷ 5 ∷ []) (0 ∷ 5 ∷ []) (pair 10 0 1 5) (pair 10 0 1 7)
     -- a tick that is shared, but not the first
@@ -63,9 +64,9 @@ claims =
     -- the mark taken for a start
     ∷ claim (10 ∷ 10 ∷ []) (6 ∷ 5 ∷ []) (0 ∷ mark ∷ []) (refused 9 1) (pair 10 0 1 5)
     -- starts that are missing taken for 0
-    ∷ claim (10 ∷ []) (5 ∷ []) ([]) (refused 1 0) (done)
+    ∷ claim (10 ∷ []) (5 ∷ []) [] (refused 1 0) done
     -- a sixth probe that meets the third
-    ∷ claim (10 ∷ 20 ∷ 20 ∷ 60 ∷ 60 ∷ 60 ∷ []) (3 ∷ 4 ∷ 5 ∷ 2 ∷ 3 ∷ 3 ∷ []) (0 ∷ 13 ∷ 3 ∷ 8 ∷ 17 ∷ 47 ∷ []) (pair 10 2 5 47) (done)
+    ∷ claim (10 ∷ 20 ∷ 20 ∷ 60 ∷ 60 ∷ 60 ∷ []) (3 ∷ 4 ∷ 5 ∷ 2 ∷ 3 ∷ 3 ∷ []) (0 ∷ 13 ∷ 3 ∷ 8 ∷ 17 ∷ 47 ∷ []) (pair 10 2 5 47) done
     ∷ []
 
 abbrev pub Settled : Claim → Type 0
@@ -126,3 +127,10 @@ pub check-shuts-out : Each Settled claims
 unfolding checked firstOf listFindings findings badPeriod badLength unchained chained divides late lowest lowestFrom anyBelow shortest leastOf longest greatestOf rows
     meetingOf opener partner apartAt tickAt apart sharedTick lag widths
 check-shuts-out = all-settled claims refl
+
+-- no answer serves all lists
+pub check-not-one : (a : Answer) → ((Ts ps ss : List ℕ) → Checks Ts ps ss a) → ⊥
+check-not-one a all =
+    let meets = check-unique _ _ _ a (pair 10 0 1 5) (all _ _ _) (check-shuts-out .0 .0) in
+    let clean = check-unique _ _ _ a done (all _ _ _) (check-shuts-out .1 .0 .0) in
+    omega (arith, ap (λ (r : Answer). r .number) (sym meets ∙ clean))

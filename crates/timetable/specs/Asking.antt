@@ -1,6 +1,7 @@
 -- A CALL THAT ASKS ABOUT A TICK: numbers 1 to 6, 9 and 11, which `holder` and `next_start` share.
 --     askVerdict Ts ps ss t     the refusal of the first line that applies, else done
 --     Asked Ts ps ss t          the table is sound, every start lies below its period, starts are as many as periods, and the tick is not too late
+--     silent-asked, asked-silent   that is: none of the lines applies
 --     Timed Ts ss t             of that, what the next start needs
 --     zero-asked                number 0 of the judge says so
 --     ask-judged, -late, -done  the ways out of the judge
@@ -8,7 +9,7 @@
 --     widths-none               where the wire needs no ticks to be free again, a read takes its length
 -- Assumes nothing.
 use mathlib.Core.Path.{_≡_, refl, sym, ap, _∙_}
-use mathlib.Core.Logic.{inl, inr}
+use mathlib.Core.Logic.{inl, inr, ⊎-elim}
 use mathlib.Core.Bool.{Bool}
 use mathlib.Core.List.{List, [], _∷_, _++_}
 use Prim.Native.Nat.{ℕ, _≤_, _<_}
@@ -89,6 +90,14 @@ module _ (Ts ps ss : List ℕ) (t : ℕ) where
       early : Dec (t ≤ lastTick) → t ≤ lastTick
       early (yes l) = l
       early (no l) = absurd (s₁₁ 0 (omega arith) (omega arith))
+
+  pub asked-silent : Asked Ts ps ss t → Silents (askLines Ts ps ss t)
+  unfolding Silents
+  asked-silent a =
+      let (s₁, (s₂, (s₃, (s₄, (s₅, (s₆, end)))))) = a .sound in (
+        λ i h. ⊎-elim (λ n. n (a .same)) (s₁ i h),
+        (s₂, (s₃, (s₄, (s₅, (s₆, (λ i h l. absurd (omega (arith, a .below i h)), (λ i h l. absurd (omega (arith, a .soon)), tt))))))),
+      )
 
   -- no line gives number 0
   pub ask-never-done : (k : ℕ) → In k (1 ∷ 2 ∷ 3 ∷ 4 ∷ 5 ∷ 6 ∷ 9 ∷ 11 ∷ []) → 0 ≡ k → ⊥
