@@ -57,7 +57,9 @@ module _ (Ts ps ss : List ℕ) where
   pub check-mark : (i : ℕ) (a : Answer) → Sound Ts ps → length Ts ≡ length ss → i < length Ts → getD ss i 0 ≡ mark
       → ((k : ℕ) → k < i → getD ss k 0 < getD Ts k 0) → Checks Ts ps ss a → a ≡ refused 9 i
   unfolding Checks First
-  check-mark i a s e h m low v = check-unique a (refused 9 i) v (first-append (lines Ts ps (DifferThree Ts ps ss)) (lateLine Ts ss ∷ []) refused (Judged Ts (widths 0 ps) ss) (refused 9 i) nine)
+  check-mark i a s e h m low v =
+      check-unique a (refused 9 i) v
+      (first-append (lines Ts ps (DifferThree Ts ps ss)) (lateLine Ts ss ∷ []) refused (Judged Ts (widths 0 ps) ss) (refused 9 i) nine)
     where
       late : Lowest (Late Ts ss) (length Ts) i
       late =
@@ -68,7 +70,8 @@ module _ (Ts ps ss : List ℕ) where
           }
 
       nine : First (lines Ts ps (DifferThree Ts ps ss)) refused (First (lateLine Ts ss ∷ []) refused (Judged Ts (widths 0 ps) ss)) (refused 9 i)
-      nine = rest-first (lines Ts ps (DifferThree Ts ps ss)) refused (First (lateLine Ts ss ∷ []) refused (Judged Ts (widths 0 ps) ss)) (refused 9 i) (sound-silent Ts ps ss s e) (inl (i, (h, late), refl))
+      nine = rest-first (lines Ts ps (DifferThree Ts ps ss)) refused (First (lateLine Ts ss ∷ []) refused (Judged Ts (widths 0 ps) ss)) (refused 9 i)
+          (sound-silent Ts ps ss s e) (inl (i, (h, late), refl))
 
   -- demand 3, first sentence: from its start on, of any T ticks in a row exactly p are the probe's, and no other probe has one of those
   pub check-alone : Checks Ts ps ss done → (i a : ℕ) → i < length Ts → getD ss i 0 ≤ a

@@ -4,21 +4,19 @@
 --     checked-meets          so of any list checked meets Checks
 --     check-refused, -done   the answer of a call that asks the judge first
 -- Assumes nothing.
-use mathlib.Core.Path.{_≡_, refl, sym, ap, _∙_}
-use mathlib.Core.Logic.{_⊎_, inl, inr, ⊎-elim}
+use mathlib.Core.Path.{_≡_, refl, sym, _∙_}
+use mathlib.Core.Logic.{_⊎_, inl, inr}
 use mathlib.Core.Bool.{Bool, true, false, not}
 use mathlib.Core.List.{List}
-use Prim.Native.Nat.{ℕ, _≤_, _<_}
-use native.Mathlib.Decide.{decLt}
+use Prim.Native.Nat.{ℕ, _<_}
 use native.Mathlib.Omega.{arith}
 use lib.Dec.{ltb}
 use lib.ListN.{length, getD}
 use borrow.Author.Tests.{ltb-true, ltb-false}
-use Rattle.lists.specs.Pick.{pick, both, Tells}
+use Rattle.lists.specs.Pick.{pick, Tells}
 use Rattle.lists.specs.Telling.{tells-lt, tells-both, tells-not, tells-false}
-use Rattle.lists.specs.Lowest.{Lowest, lowest, lowest-meets}
-use Rattle.lists.specs.Refusals.{Silents}
-use Rattle.lists.specs.Answering.{firstOf, first-of}
+use Rattle.lists.specs.Lowest.{Lowest, lowest-meets}
+use Rattle.lists.specs.Answering.{first-of}
 use Rattle.lists.specs.Harmonic.{Harmonic, Positive}
 use Rattle.words.specs.declared.Answer.{Answer}
 use Rattle.words.specs.Answers.{refused, done, pair}
@@ -31,7 +29,7 @@ use Rattle.table.specs.Verdict.{listFindings}
 use Rattle.table.specs.Laws.{sound-gives}
 use Rattle.table.specs.Composing.{listVerdict, list-find, list-numbered, compose-done, compose-refused, refusal-is}
 use Rattle.checker.specs.Check.{Meets, Judged, partner, opener, meetingOf, Checks, checked}
-use Rattle.checker.specs.Passing.{Passes, InRange, passes-gives, silent-passes, widths-none}
+use Rattle.checker.specs.Passing.{Passes, passes-gives, silent-passes, widths-none}
 
 module _ (Ts qs ss : List ℕ) where
   -- a pair that meets is in no clean list, and no pair that comes before it is named

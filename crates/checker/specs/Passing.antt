@@ -9,21 +9,21 @@
 -- Assumes nothing.
 use mathlib.Core.Path.{_≡_, refl, sym, ap, _∙_}
 use mathlib.Core.Logic.{inl, inr, ⊎-elim}
-use mathlib.Core.List.{List, [], _∷_, _++_}
+use mathlib.Core.List.{List, [], _∷_}
 use Prim.Native.Nat.{ℕ, zero, suc, _≤_, _<_, min}
 use native.Mathlib.Nat.{add-zero}
 use native.Mathlib.Decide.{decLt, ℕ-discrete}
 use native.Mathlib.Omega.{arith}
 use lib.ListN.{length, getD}
 use Rattle.lists.specs.Pick.{In}
-use Rattle.lists.specs.Refusals.{Silents, First, first-silents}
+use Rattle.lists.specs.Refusals.{Silents, first-silents}
 use Rattle.lists.specs.Answering.{first-of}
 use Rattle.words.specs.declared.Answer.{Answer}
 use Rattle.words.specs.Answers.{refused, done}
-use Rattle.table.specs.Table.{mostPeriod, mostProbes, leastOf, shortest, widths, Sound, Below, DifferThree, lines, listLines}
+use Rattle.table.specs.Table.{mostPeriod, leastOf, shortest, widths, Sound, Below, DifferThree, lines, listLines}
 use Rattle.table.specs.Verdict.{listFindings}
-use Rattle.table.specs.Laws.{Soundness, sound-gives}
-use Rattle.table.specs.Composing.{listVerdict, list-find, list-numbered, compose-done}
+use Rattle.table.specs.Laws.{sound-gives}
+use Rattle.table.specs.Composing.{listVerdict, list-find}
 
 pub record Passes (Ts ps ss : List ℕ) : Type 0 where
   pub sound : Sound Ts ps

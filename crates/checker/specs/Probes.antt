@@ -4,16 +4,15 @@
 --     apartOf, tickOf a b   the published condition and the first shared tick of two probes
 --     passes-ordered        two probes of a list that passes 1 to 6 and 9 are ordered by their periods
 -- Assumes nothing.
-use mathlib.Core.Path.{_≡_, refl}
+use mathlib.Core.Path.{_≡_}
 use mathlib.Core.Bool.{Bool}
 use mathlib.Core.List.{List}
 use Prim.Native.Nat.{ℕ, _≤_, _<_}
-use native.Mathlib.Omega.{arith}
 use lib.ListN.{length, getD}
 use Rattle.wire.specs.Meeting.{apart, sharedTick}
 use Rattle.table.specs.Table.{mostPeriod}
 use Rattle.checker.specs.declared.Probe.{Probe}
-use Rattle.checker.specs.Passing.{Passes, InRange, passes-gives}
+use Rattle.checker.specs.Passing.{Passes, passes-gives}
 
 abbrev pub probeAt : List ℕ → List ℕ → List ℕ → ℕ → Probe
 probeAt Ts qs ss i = record { period = getD Ts i 0; width = getD qs i 0; start = getD ss i 0 }

@@ -4,19 +4,18 @@
 --     by-first, by-second   of the pair i, j the one with the shorter period goes first
 --     above-is              the test of a partner at a place above i
 -- Assumes nothing.
-use mathlib.Core.Path.{_≡_, refl, sym, ap, _∙_}
+use mathlib.Core.Path.{_≡_, sym}
 use mathlib.Core.Bool.{Bool, true, false, not}
 use mathlib.Core.List.{List}
-use Prim.Native.Nat.{ℕ, zero, suc, _+_, _-_, _%_, _≤_, _<_, max}
+use Prim.Native.Nat.{ℕ, zero, suc, _+_, _-_, _%_, _≤_, _<_}
 use native.Mathlib.Nat.{mod-eq-of-lt}
 use native.Mathlib.Numerals.{add-one}
 use native.Mathlib.Omega.{arith}
 use lib.Dec.{leb, ltb}
 use lib.ListN.{length, getD}
 use borrow.Author.Tests.{le-leb, lt-leb, lt-ltb, le-ltb}
-use Rattle.lists.specs.Pick.{pick, both}
-use Rattle.lists.specs.Lowest.{Searching, searching-start, searching-next, lowest}
-use Rattle.words.specs.declared.Answer.{Answer}
+use Rattle.lists.specs.Pick.{both}
+use Rattle.lists.specs.Lowest.{Searching, searching-start, searching-next}
 use Rattle.words.specs.Answers.{done, pair}
 use Rattle.wire.specs.Meeting.{lag, apart, sharedTick, apartAt, tickAt}
 use Rattle.wire.specs.CleanTest.{at-by-first, at-by-second}

@@ -1,6 +1,6 @@
 // The checker: whether a list is clean on the wire, and if not, which pair meets first and when.
 ghost use mathlib.Core.Path.{_≡_};
-ghost use Prim.Native.Nat.{ℕ, _≤_, _<_};
+ghost use Prim.Native.Nat.{_≤_, _<_};
 ghost use lib.ListN.{length};
 ghost use Rattle.wire.specs.Meeting.{lag, apartAt, tickAt};
 ghost use Rattle.table.specs.Table.{mostPeriod, widths};

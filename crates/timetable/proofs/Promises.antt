@@ -42,7 +42,9 @@ module _ (Ts ps ss : List ℕ) (t : ℕ) where
   pub holder-names : (i : ℕ) (a : Answer) → Asked Ts ps ss t → i < length Ts → HoldsAt Ts ps ss i t → ((k : ℕ) → k < i → HoldsAt Ts ps ss k t → ⊥)
       → Holder Ts ps ss t a → a ≡ refused 0 i
   unfolding Holder HeldBy
-  holder-names i a q h b low v = holder-unique a (refused 0 i) v (rest-first (askLines Ts ps ss t) refused (HeldBy Ts (widths 0 ps) ss t) (refused 0 i) (asked-silent Ts ps ss t q) (rw (widths-none ps) named))
+  holder-names i a q h b low v =
+      holder-unique a (refused 0 i) v
+      (rest-first (askLines Ts ps ss t) refused (HeldBy Ts (widths 0 ps) ss t) (refused 0 i) (asked-silent Ts ps ss t q) (rw (widths-none ps) named))
     where
       named : (r : ℕ) × Lowest (λ k. HoldsAt Ts ps ss k t) (length Ts) r × (refused 0 i ≡ refused 0 (pick (ltb r (length Ts)) r mark))
       named = (i, record { within = omega arith; passed = low; found = λ l. b }, rw (lt-ltb i (length Ts) h))
@@ -50,7 +52,9 @@ module _ (Ts ps ss : List ℕ) (t : ℕ) where
   -- and idle exactly where no probe holds it
   pub holder-idle : (a : Answer) → Asked Ts ps ss t → ((k : ℕ) → k < length Ts → HoldsAt Ts ps ss k t → ⊥) → Holder Ts ps ss t a → a ≡ refused 0 mark
   unfolding Holder HeldBy
-  holder-idle a q none v = holder-unique a (refused 0 mark) v (rest-first (askLines Ts ps ss t) refused (HeldBy Ts (widths 0 ps) ss t) (refused 0 mark) (asked-silent Ts ps ss t q) (rw (widths-none ps) idle))
+  holder-idle a q none v =
+      holder-unique a (refused 0 mark) v
+      (rest-first (askLines Ts ps ss t) refused (HeldBy Ts (widths 0 ps) ss t) (refused 0 mark) (asked-silent Ts ps ss t q) (rw (widths-none ps) idle))
     where
       past : (b : Bool) → ltb (length Ts) (length Ts) ≡ b → refused 0 mark ≡ refused 0 (pick b (length Ts) mark)
       past true e = absurd (omega (arith, ltb-true (length Ts) (length Ts) e))

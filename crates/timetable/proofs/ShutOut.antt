@@ -4,9 +4,9 @@
 --     holder-shuts-out                every claim of the holder's table is settled so
 --     next-start-shuts-out            and every claim of the next start's
 -- Assumes nothing.
-use mathlib.Core.Path.{_≡_, refl, sym, ap, _∙_}
+use mathlib.Core.Path.{_≡_, refl, ap}
 use mathlib.Core.Bool.{Bool, true, false, not}
-use mathlib.Core.List.{List, [], _∷_, _++_}
+use mathlib.Core.List.{List, [], _∷_}
 use Prim.Native.Nat.{ℕ, suc}
 use lib.Dec.{eqb}
 use Rattle.lists.specs.Pick.{both, Tells, anyBelow}
@@ -148,7 +148,7 @@ holder-shuts-out =
 
 pub next-start-shuts-out : Each NextSettled nextClaims
 unfolding nextAnswer firstOf askFindings listFindings findings badPeriod badLength unchained chained divides late lowest lowestFrom anyBelow shortest leastOf longest greatestOf rows
-    nextOf candidate
+    nextOf candidate phase
 next-start-shuts-out =
     all-settled (λ c. nextAnswer (c .periods) (c .lengths) (c .starts) (c .tick)) (λ c. NextFrom (c .periods) (c .lengths) (c .starts) (c .tick))
     (λ c. next-meets _ _ _ _) (λ c. next-start-unique _ _ _ _) nextClaims refl

@@ -10,15 +10,14 @@
 -- Assumes nothing.
 use mathlib.Core.Path.{_≡_, refl, sym, ap, _∙_}
 use mathlib.Core.Logic.{inl, inr, ⊎-elim}
-use mathlib.Core.Bool.{Bool}
-use mathlib.Core.List.{List, [], _∷_, _++_}
+use mathlib.Core.List.{List, [], _∷_}
 use Prim.Native.Nat.{ℕ, _≤_, _<_}
 use native.Mathlib.Nat.{add-zero}
 use native.Mathlib.Decide.{decLe, decLt, ℕ-discrete}
 use native.Mathlib.Omega.{arith}
 use lib.ListN.{length, getD}
 use borrow.Author.Tests.{lt-ltb, le-ltb}
-use Rattle.lists.specs.Pick.{pick, In}
+use Rattle.lists.specs.Pick.{In}
 use Rattle.lists.specs.Telling.{tells-lt}
 use Rattle.lists.specs.Refusals.{Silents, whole, first-silents}
 use Rattle.lists.specs.Answering.{tested, firstOf, first-of, first-of-append, AllFind, all-find-append, finds-whole}

@@ -6,16 +6,15 @@
 --     holder-found, -idle       the ways out of `holder`
 -- Assumes nothing.
 use mathlib.Core.Path.{_≡_, refl, sym, ap, _∙_}
-use mathlib.Core.Bool.{Bool, true, false}
+use mathlib.Core.Bool.{false}
 use mathlib.Core.List.{List}
 use Prim.Native.Nat.{ℕ, _≤_, _<_}
-use native.Mathlib.Omega.{arith}
-use lib.Dec.{leb, ltb}
+use lib.Dec.{ltb}
 use lib.ListN.{length, getD}
 use borrow.Author.Tests.{le-leb, lt-leb, lt-ltb, le-ltb}
-use Rattle.lists.specs.Pick.{pick, both}
+use Rattle.lists.specs.Pick.{pick}
 use Rattle.lists.specs.Lowest.{lowest, lowest-meets, lowest-unique}
-use Rattle.lists.specs.Answering.{firstOf, first-of}
+use Rattle.lists.specs.Answering.{first-of}
 use Rattle.words.specs.declared.Answer.{Answer}
 use Rattle.words.specs.Answers.{refused, mark}
 use Rattle.wire.specs.Wire.{HoldsAt}

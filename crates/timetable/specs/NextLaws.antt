@@ -7,24 +7,21 @@
 -- Edges: only the empty table has no start.
 -- Assumes nothing.
 use mathlib.Core.Path.{_≡_, refl, sym, ap, _∙_}
-use mathlib.Core.Logic.{_⊎_, inl, inr}
-use mathlib.Core.Bool.{Bool, true, false}
-use mathlib.Core.List.{List, []}
+use mathlib.Core.Logic.{inl, inr}
+use mathlib.Core.List.{List}
 use Prim.Native.Nat.{ℕ, zero, suc, _+_, _-_, _*_, _/_, _%_, _≤_, _<_}
-use native.Mathlib.Nat.{add-sub-cancel-left, div-add-mod', div-mul-le-self, lt-div-mul-add, mul-le-mul-right, mul-mod-left, sub-self, zero-mod}
+use native.Mathlib.Nat.{div-add-mod', mod-lt, mul-le-mul-right, mul-mod-left, sub-self, zero-mod}
 use native.Mathlib.Numerals.{add-one}
-use native.Mathlib.Decide.{decLe, decLt}
+use native.Mathlib.Decide.{decLe, decLt, ℕ-discrete}
 use native.Mathlib.Omega.{arith}
-use lib.Dec.{leb, ltb}
 use lib.ListN.{length, getD}
-use borrow.Author.Tests.{le-leb, lt-leb, lt-ltb, leb-true, leb-false}
-use Rattle.lists.specs.Pick.{pick, both}
-use Rattle.lists.specs.Answering.{firstOf, first-of}
+use borrow.Author.Tests.{le-leb, lt-leb, lt-ltb, eq-eqb, ne-eqb}
+use Rattle.lists.specs.Answering.{first-of}
 use Rattle.words.specs.declared.Answer.{Answer}
 use Rattle.words.specs.Answers.{refused, pair, mark}
 use Rattle.table.specs.Laws.{sound-gives}
-use Rattle.timetable.specs.Timetable.{askLines, askFindings, Starts, IsNextStart, NextStart, NextFrom, candidate, nextOf, nextAnswer}
-use Rattle.timetable.specs.Asking.{askVerdict, Asked, silent-asked, ask-find, ask-refused, ask-passed}
+use Rattle.timetable.specs.Timetable.{askLines, askFindings, Starts, IsNextStart, NextStart, NextFrom, phase, candidate, nextOf, nextAnswer}
+use Rattle.timetable.specs.Asking.{askVerdict, silent-asked, ask-find, ask-refused, ask-passed}
 
 -- one probe
 module _ (T s t : ℕ) where
@@ -32,9 +29,14 @@ module _ (T s t : ℕ) where
   unfolding candidate
   candidate-now h = rw (le-leb t s h)
 
-  pub candidate-later : s < t → s + (t - s + (T - 1)) / T * T ≡ candidate T s t
-  unfolding candidate
-  candidate-later h = rw (lt-leb t s h)
+  module _ (f : ℕ) (e : f ≡ phase T s t) (h : s < t) where
+    pub candidate-here : f ≡ 0 → t ≡ candidate T s t
+    unfolding candidate
+    candidate-here g = rw (lt-leb t s h, ← e, eq-eqb f 0 g)
+
+    pub candidate-later : (f ≡ 0 → ⊥) → t + (T - f) ≡ candidate T s t
+    unfolding candidate
+    candidate-later g = rw (lt-leb t s h, ← e, ne-eqb f 0 g)
 
   module _ (z : 0 < T) where
     record Fits (x : ℕ) : Type 0 where
@@ -45,34 +47,37 @@ module _ (T s t : ℕ) where
     now-fits : t ≤ s → Fits s
     now-fits h = record { from = h; starts = (omega arith, rw (sub-self) (zero-mod T)); least = λ y k w. w .0 }
 
-    later-fits : s < t → Fits (s + (t - s + (T - 1)) / T * T)
-    later-fits h = record { from = omega (arith, high); starts = (omega arith, turns); least = fewest }
+    here-fits : s < t → (t - s) % T ≡ 0 → Fits t
+    here-fits h e = record { from = omega arith; starts = (omega arith, e); least = λ y k w. k }
+
+    later-fits : s < t → ((t - s) % T ≡ 0 → ⊥) → Fits (t + (T - (t - s) % T))
+    later-fits h n = record { from = omega arith; starts = (omega (arith, whole), turns); least = fewest }
       where
-        m : ℕ
-        m = (t - s + (T - 1)) / T
+        -- whole turns from s to the end of the turn that t lies in
+        whole : t + (T - (t - s) % T) - s ≡ suc ((t - s) / T) * T
+        whole = omega (arith, div-add-mod' (t - s) T, mod-lt (t - s) z)
 
-        high : t - s + (T - 1) < m * T + T
-        high = lt-div-mul-add {a = t - s + (T - 1)} {b = T} z
+        turns : (t + (T - (t - s) % T) - s) % T ≡ 0
+        turns = rw whole (mul-mod-left (suc ((t - s) / T)) T)
 
-        turns : (s + m * T - s) % T ≡ 0
-        turns = ap (λ (y : ℕ). y % T) (add-sub-cancel-left s (m * T)) ∙ mul-mod-left m T
-
-        -- a read that starts at t or later is no fewer turns on
-        fewest : (y : ℕ) → t ≤ y → Starts T s y → s + m * T ≤ y
-        fewest y k (l, e) = by (decLe m ((y - s) / T))
+        -- a read that starts later than t is no fewer turns on
+        fewest : (y : ℕ) → t ≤ y → Starts T s y → t + (T - (t - s) % T) ≤ y
+        fewest y k (l, e) = by (decLe (suc ((t - s) / T)) ((y - s) / T))
           where
-            by : Dec (m ≤ (y - s) / T) → s + m * T ≤ y
-            by (yes g) = omega (arith, mul-le-mul-right T g, div-add-mod' (y - s) T)
+            by : Dec (suc ((t - s) / T) ≤ (y - s) / T) → t + (T - (t - s) % T) ≤ y
+            by (yes g) = omega (arith, mul-le-mul-right T g, div-add-mod' (y - s) T, whole)
             by (no g) =
-                let one : suc ((y - s) / T) ≤ m = omega arith in
-                absurd (omega (arith, mul-le-mul-right T one, div-add-mod' (y - s) T, div-mul-le-self (t - s + (T - 1)) T))
+                let o : (y - s) / T ≤ (t - s) / T = omega arith in
+                absurd (omega (arith, mul-le-mul-right T o, div-add-mod' (y - s) T, div-add-mod' (t - s) T))
 
     candidate-fits : Fits (candidate T s t)
-    candidate-fits = by (decLe t s)
+    unfolding phase
+    candidate-fits = by (decLe t s) (ℕ-discrete ((t - s) % T) 0)
       where
-        by : Dec (t ≤ s) → Fits (candidate T s t)
-        by (yes h) = rw (← (candidate-now h)) (now-fits h)
-        by (no h) = rw (← (candidate-later (omega arith))) (later-fits (omega arith))
+        by : Dec (t ≤ s) → Dec ((t - s) % T ≡ 0) → Fits (candidate T s t)
+        by (yes h) d = rw (← (candidate-now h)) (now-fits h)
+        by (no h) (yes e) = rw (← (candidate-here ((t - s) % T) refl (omega arith) e)) (here-fits (omega arith) e)
+        by (no h) (no n) = rw (← (candidate-later ((t - s) % T) refl (omega arith) n)) (later-fits (omega arith) n)
 
     pub candidate-from : t ≤ candidate T s t
     candidate-from = candidate-fits .from

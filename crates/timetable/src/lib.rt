@@ -1,6 +1,6 @@
 // The timetable of a sound table and list, clean or not: who holds a tick, and when the next read starts.
 ghost use mathlib.Core.Path.{_≡_};
-ghost use Prim.Native.Nat.{ℕ, _≤_, _<_};
+ghost use Prim.Native.Nat.{_≤_, _<_};
 ghost use lib.ListN.{length};
 ghost use Rattle.lists.specs.Lowest.{lowest};
 ghost use Rattle.words.specs.Ticks.{lastTick};
@@ -58,12 +58,14 @@ fn first_from(period: u32, start: u32, tick: u64) -> u64
     requires { ⌜ tick ≤ lastTick ⌝ }
     ensures { λ r. ⌜ r ≡ candidate period start tick ⌝ }
 {
-    let s = start as u64;
-    let t = period as u64;
-    if tick <= s {
-        return s;
+    if tick <= start as u64 {
+        return start as u64;
     }
-    s + (tick - s + (t - 1)) / t * t
+    let since = phase(period, start, tick);
+    if since == 0 {
+        return tick;
+    }
+    tick + (period - since) as u64
 }
 
 // The least start from the tick on, with the lowest such probe; the mark where there is no probe.

@@ -1,14 +1,10 @@
 -- `checker::apart` meets its contract: the published condition, one half at a time. Assumes nothing.
-use mathlib.Core.Path.{_≡_}
 use native.Mathlib.Omega.{arith}
 use Rattle.wire.specs.Lag.{lag-lt}
 use Rattle.checker.specs.Steps.{apart-early, apart-is}
 use borrow.Author.Needs.{needs}
 use Rattle.checker.proofs.apart.Statement.{statement}
 use Rattle.checker.proofs.apart.Tie as tie
-use Rattle.checker.proofs.apart.Reads as reads
-use Rattle.checker.proofs.apart.Lts as lts
-use Rattle.checker.proofs.lag.Reads as lag-reads
 
 lag-requires : tie.Need-lag-requires
 lag-requires c κs = search needs

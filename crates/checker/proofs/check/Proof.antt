@@ -4,10 +4,6 @@ use Rattle.checker.specs.Laws.{check-refused, check-done}
 use borrow.Author.Needs.{needs}
 use Rattle.checker.proofs.check.Statement.{statement}
 use Rattle.checker.proofs.check.Tie as tie
-use Rattle.checker.proofs.check.Reads as reads
-use Rattle.checker.proofs.check.Lts as lts
-use Rattle.checker.proofs.meeting.Reads as meeting-reads
-use Rattle.table.proofs.judge_list.Reads as judge-list-reads
 
 judge-list-requires : tie.Need-judge-list-requires
 judge-list-requires c κs = search needs

@@ -1,12 +1,8 @@
 -- `checker::lag` meets its contract. Assumes nothing.
-use mathlib.Core.Path.{_≡_}
-use native.Mathlib.Omega.{arith}
 use Rattle.checker.specs.Steps.{lag-is}
 use borrow.Author.Needs.{needs}
 use Rattle.checker.proofs.lag.Statement.{statement}
 use Rattle.checker.proofs.lag.Tie as tie
-use Rattle.checker.proofs.lag.Reads as reads
-use Rattle.checker.proofs.lag.Lts as lts
 
 sub-result : tie.Need-sub-result
 sub-result c = search needs

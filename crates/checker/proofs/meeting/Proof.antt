@@ -1,6 +1,6 @@
 -- `checker::meeting` meets its contract: the probes below i have no partner. Assumes nothing.
-use mathlib.Core.Path.{_≡_, _∙_}
-use Prim.Native.Nat.{ℕ, _-_, _<_}
+use mathlib.Core.Path.{_∙_}
+use Prim.Native.Nat.{_-_}
 use native.Mathlib.Omega.{arith}
 use lib.Dec.{ltb}
 use lib.ListN.{length}
@@ -12,12 +12,6 @@ use Rattle.checker.specs.Steps.{has-partner, no-partner, meeting-found, 
 use borrow.Author.Needs.{needs}
 use Rattle.checker.proofs.meeting.Statement.{statement}
 use Rattle.checker.proofs.meeting.Tie as tie
-use Rattle.checker.proofs.meeting.Reads as reads
-use Rattle.checker.proofs.meeting.Lts as lts
-use Rattle.checker.proofs.partner.Reads as partner-reads
-use Rattle.checker.proofs.tick_at.Reads as tick-at-reads
-use Rattle.words.proofs.Answer.done.Reads as done-reads
-use Rattle.words.proofs.Answer.pair.Reads as pair-reads
 
 abbrev Inv-loop : tie.InvT-loop
 Inv-loop periods lengths starts i₀ i = Searching (λ k. ltb (partner periods lengths starts k) (length periods)) (length periods) i
@@ -63,8 +57,9 @@ returns c =
     let ps = c .before .before .before .before .before .before .before .before .before .args .lengths .now in
     let ss = c .before .before .before .before .before .before .before .before .before .args .starts .now in
     let l = c .before .before .before .before .before .loop in
+    let first = searching-found _ _ (l .i) (omega arith) (has-partner Ts ps ss (l .i) _ (c .before .before .before .partner .ensures) (omega arith)) (l .inv) in
     rw (widths-none ps)
-    (c .pair .ensures ∙ meeting-found Ts ps ss _ _ _ (searching-found _ _ (l .i) (omega arith) (has-partner Ts ps ss (l .i) _ (c .before .before .before .partner .ensures) (omega arith)) (l .inv)) (c .before .before .before .partner .ensures) (omega arith) (omega arith) (c .before .tick-at .ensures))
+    (c .pair .ensures ∙ meeting-found Ts ps ss _ _ _ first (c .before .before .before .partner .ensures) (omega arith) (omega arith) (c .before .tick-at .ensures))
 
 add-i : tie.Need-add-i Inv-loop μ-loop
 add-i c = search needs

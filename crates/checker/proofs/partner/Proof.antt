@@ -1,7 +1,7 @@
 -- `checker::partner` meets its contract: the places above i and below j were tried, and i meets none of them. Assumes nothing.
-use mathlib.Core.Path.{_≡_, _∙_}
-use mathlib.Core.Bool.{Bool, not}
-use Prim.Native.Nat.{ℕ, _-_, _<_}
+use mathlib.Core.Path.{_∙_}
+use mathlib.Core.Bool.{not}
+use Prim.Native.Nat.{_-_, _<_}
 use native.Mathlib.Omega.{arith}
 use lib.Dec.{ltb}
 use lib.ListN.{length}
@@ -13,9 +13,6 @@ use Rattle.checker.specs.Steps.{partner-start, above-is}
 use borrow.Author.Needs.{needs}
 use Rattle.checker.proofs.partner.Statement.{statement}
 use Rattle.checker.proofs.partner.Tie as tie
-use Rattle.checker.proofs.partner.Reads as reads
-use Rattle.checker.proofs.partner.Lts as lts
-use Rattle.checker.proofs.apart_at.Reads as apart-at-reads
 
 abbrev Inv-loop : tie.InvT-loop
 Inv-loop periods lengths starts i j₀ j = (i < j) × Searching (λ k. both (ltb i k) (not (apartAt periods lengths starts i k))) (length periods) j

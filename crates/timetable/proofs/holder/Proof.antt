@@ -1,5 +1,5 @@
 -- `timetable::holder` meets its contract: the judge first, then the lowest probe that holds the tick. Assumes nothing.
-use mathlib.Core.Path.{_≡_, _∙_}
+use mathlib.Core.Path.{_∙_}
 use native.Mathlib.Omega.{arith}
 use Rattle.table.specs.Laws.{sound-gives}
 use Rattle.timetable.specs.Asking.{zero-asked}
@@ -7,11 +7,6 @@ use Rattle.timetable.specs.HolderLaws.{holder-found, holder-idle, holder
 use borrow.Author.Needs.{needs}
 use Rattle.timetable.proofs.holder.Statement.{statement}
 use Rattle.timetable.proofs.holder.Tie as tie
-use Rattle.timetable.proofs.holder.Reads as reads
-use Rattle.timetable.proofs.holder.Lts as lts
-use Rattle.timetable.proofs.holding.Reads as holding-reads
-use Rattle.timetable.proofs.judge.Reads as judge-reads
-use Rattle.words.proofs.Answer.refused.Reads as refused-reads
 
 judge-requires : tie.Need-judge-requires
 judge-requires c κs = search needs
@@ -49,7 +44,8 @@ returns-2 c =
     let ps = c .before .before .before .before .before .before .before .before .args .lengths .now in
     let ss = c .before .before .before .before .before .before .before .before .args .starts .now in
     let t = c .before .before .before .before .before .before .before .before .args .tick in
-    holder-done Ts ps ss t _ _ (c .before .before .before .before .judge .ensures) (c .before .before .before .if1 .left) (c .refused .ensures ∙ holder-found Ts ps ss t _ (c .before .before .holding .ensures) (omega arith))
+    holder-done Ts ps ss t _ _ (c .before .before .before .before .judge .ensures) (c .before .before .before .if1 .left)
+    (c .refused .ensures ∙ holder-found Ts ps ss t _ (c .before .before .holding .ensures) (omega arith))
 
 refused-requires-2 : tie.Need-refused-requires-2
 refused-requires-2 c κs = search needs
@@ -60,7 +56,8 @@ returns-3 c =
     let ps = c .before .before .before .before .before .before .before .before .args .lengths .now in
     let ss = c .before .before .before .before .before .before .before .before .args .starts .now in
     let t = c .before .before .before .before .before .before .before .before .args .tick in
-    holder-done Ts ps ss t _ _ (c .before .before .before .before .judge .ensures) (c .before .before .before .if1 .left) (c .refused2 .ensures ∙ holder-idle Ts ps ss t _ (c .before .before .holding .ensures) (omega arith))
+    holder-done Ts ps ss t _ _ (c .before .before .before .before .judge .ensures) (c .before .before .before .if1 .left)
+    (c .refused2 .ensures ∙ holder-idle Ts ps ss t _ (c .before .before .holding .ensures) (omega arith))
 
 pub holder-spec : {M : Type 1} → statement M
 holder-spec =

@@ -1,6 +1,6 @@
 -- `timetable::holding` meets its contract: the probes below i were tried, and none of them holds the tick. Assumes nothing.
-use mathlib.Core.Path.{_≡_, sym, _∙_}
-use Prim.Native.Nat.{ℕ, _-_}
+use mathlib.Core.Path.{sym, _∙_}
+use Prim.Native.Nat.{_-_}
 use native.Mathlib.Omega.{arith}
 use lib.ListN.{length}
 use Rattle.lists.specs.Lowest.{Searching, searching-start, searching-next, searching-found, searching-none}
@@ -10,9 +10,6 @@ use Rattle.timetable.specs.HolderLaws.{holds-at}
 use borrow.Author.Needs.{needs}
 use Rattle.timetable.proofs.holding.Statement.{statement}
 use Rattle.timetable.proofs.holding.Tie as tie
-use Rattle.timetable.proofs.holding.Reads as reads
-use Rattle.timetable.proofs.holding.Lts as lts
-use Rattle.timetable.proofs.holds.Reads as holds-reads
 
 abbrev Inv-loop : tie.InvT-loop
 Inv-loop periods lengths starts tick i₀ i = Searching (holdsTest periods lengths starts tick) (length periods) i

@@ -4,9 +4,6 @@ use Rattle.timetable.specs.HolderLaws.{early-holds, phase-holds}
 use borrow.Author.Needs.{needs}
 use Rattle.timetable.proofs.holds.Statement.{statement}
 use Rattle.timetable.proofs.holds.Tie as tie
-use Rattle.timetable.proofs.holds.Reads as reads
-use Rattle.timetable.proofs.holds.Lts as lts
-use Rattle.timetable.proofs.phase.Reads as phase-reads
 
 returns : tie.Need-returns
 returns c =

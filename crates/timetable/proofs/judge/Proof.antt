@@ -1,18 +1,11 @@
 -- `timetable::judge` meets its contract: the judge of a list first, then the tick. Assumes nothing.
-use mathlib.Core.Path.{_≡_, sym, _∙_}
-use native.Mathlib.Omega.{arith}
+use mathlib.Core.Path.{sym, _∙_}
 use borrow.Author.Tests.{ltb-true, ltb-false}
 use Rattle.words.specs.Ticks.{lastTick}
 use Rattle.timetable.specs.Asking.{ask-judged, ask-late, ask-done}
 use borrow.Author.Needs.{needs}
 use Rattle.timetable.proofs.judge.Statement.{statement}
 use Rattle.timetable.proofs.judge.Tie as tie
-use Rattle.timetable.proofs.judge.Reads as reads
-use Rattle.timetable.proofs.judge.Lts as lts
-use Rattle.table.proofs.judge_list.Reads as judge-list-reads
-use Rattle.words.proofs.Answer.done.Reads as done-reads
-use Rattle.words.proofs.Answer.refused.Reads as refused-reads
-use Rattle.words.proofs.Tick.too_late.Reads as too-late-reads
 
 judge-list-requires : tie.Need-judge-list-requires
 judge-list-requires c κs = search needs
@@ -37,7 +30,8 @@ returns-2 c =
     let ps = c .before .before .before .before .before .before .before .before .args .lengths .now in
     let ss = c .before .before .before .before .before .before .before .before .args .starts .now in
     let t = c .before .before .before .before .before .before .before .before .args .tick in
-    c .refused .ensures ∙ ask-late Ts ps ss t _ (c .before .before .before .before .judge-list .ensures) (c .before .before .before .if1 .left) (ltb-true lastTick t (sym (c .before .before .too-late .ensures) ∙ c .before .if2 .taken))
+    c .refused .ensures ∙ ask-late Ts ps ss t _ (c .before .before .before .before .judge-list .ensures) (c .before .before .before .if1 .left)
+    (ltb-true lastTick t (sym (c .before .before .too-late .ensures) ∙ c .before .if2 .taken))
 
 done-requires : tie.Need-done-requires
 done-requires c κs = search needs
@@ -48,7 +42,8 @@ returns-3 c =
     let ps = c .before .before .before .before .before .before .before .before .args .lengths .now in
     let ss = c .before .before .before .before .before .before .before .before .args .starts .now in
     let t = c .before .before .before .before .before .before .before .before .args .tick in
-    c .done .ensures ∙ ask-done Ts ps ss t _ (c .before .before .before .before .judge-list .ensures) (c .before .before .before .if1 .left) (ltb-false lastTick t (sym (c .before .before .too-late .ensures) ∙ c .before .if2 .left))
+    c .done .ensures ∙ ask-done Ts ps ss t _ (c .before .before .before .before .judge-list .ensures) (c .before .before .before .if1 .left)
+    (ltb-false lastTick t (sym (c .before .before .too-late .ensures) ∙ c .before .if2 .left))
 
 pub judge-spec : {M : Type 1} → statement M
 judge-spec =

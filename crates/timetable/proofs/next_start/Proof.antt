@@ -4,10 +4,6 @@ use Rattle.timetable.specs.NextLaws.{next-refused, next-done}
 use borrow.Author.Needs.{needs}
 use Rattle.timetable.proofs.next_start.Statement.{statement}
 use Rattle.timetable.proofs.next_start.Tie as tie
-use Rattle.timetable.proofs.next_start.Reads as reads
-use Rattle.timetable.proofs.next_start.Lts as lts
-use Rattle.timetable.proofs.judge.Reads as judge-reads
-use Rattle.timetable.proofs.soonest.Reads as soonest-reads
 
 judge-requires : tie.Need-judge-requires
 judge-requires c κs = search needs

@@ -7,8 +7,6 @@ use Rattle.timetable.specs.Timetable.{phase}
 use borrow.Author.Needs.{needs}
 use Rattle.timetable.proofs.phase.Statement.{statement}
 use Rattle.timetable.proofs.phase.Tie as tie
-use Rattle.timetable.proofs.phase.Reads as reads
-use Rattle.timetable.proofs.phase.Lts as lts
 
 sub-result : tie.Need-sub-result
 sub-result c = search needs

@@ -1,20 +1,15 @@
 -- `timetable::soonest` meets its contract: index and at are the next start of the first k probes. Assumes nothing.
-use mathlib.Core.Path.{_≡_, refl, sym, ap, _∙_}
+use mathlib.Core.Path.{_≡_, _∙_}
 use mathlib.Core.Logic.{⊎-elim}
-use Prim.Native.Nat.{ℕ, _-_, _≤_, _<_}
+use Prim.Native.Nat.{_-_, _≤_, _<_}
 use native.Mathlib.Omega.{arith}
-use lib.ListN.{length, getD}
+use lib.ListN.{length}
 use Rattle.words.specs.Answers.{pair}
 use Rattle.timetable.specs.Timetable.{nextOf}
 use Rattle.timetable.specs.NextLaws.{next-none, next-one, turn-sooner, turn-kept, next-all}
 use borrow.Author.Needs.{needs}
 use Rattle.timetable.proofs.soonest.Statement.{statement}
 use Rattle.timetable.proofs.soonest.Tie as tie
-use Rattle.timetable.proofs.soonest.Reads as reads
-use Rattle.timetable.proofs.soonest.Lts as lts
-use Rattle.timetable.proofs.first_from.Reads as first-from-reads
-use Rattle.words.proofs.Answer.pair.Reads as pair-reads
-use Rattle.words.proofs.Answer.refused.Reads as refused-reads
 
 abbrev Inv-loop : tie.InvT-loop
 Inv-loop periods starts tick index₀ at₀ k₀ index at k = (0 < k) × (k ≤ length periods) × (pair 0 index 0 at ≡ nextOf periods starts tick k)
@@ -94,7 +89,9 @@ loop-again c =
     let l = c .before .before .before .before .before .loop in (
       omega arith,
       omega arith,
-      ⊎-elim (λ w. turn-sooner Ts ss t (l .index) (l .at) (l .k) _ _ _ (omega arith) (l .inv .2) (c .before .first-from2 .ensures) (w .0 .taken) (w .1) (w .2)) (λ w. turn-kept Ts ss t (l .index) (l .at) (l .k) _ _ _ (omega arith) (l .inv .2) (c .before .first-from2 .ensures) (w .0 .left) (w .1) (w .2)) (c .if2 .came),
+      ⊎-elim (λ w. turn-sooner Ts ss t (l .index) (l .at) (l .k) _ _ _ (omega arith) (l .inv .2) (c .before .first-from2 .ensures) (w .0 .taken) (w .1) (w .2))
+          (λ w. turn-kept Ts ss t (l .index) (l .at) (l .k) _ _ _ (omega arith) (l .inv .2) (c .before .first-from2 .ensures) (w .0 .left) (w .1) (w .2))
+          (c .if2 .came),
     )
 
 pair-requires : tie.Need-pair-requires Inv-loop μ-loop

@@ -4,8 +4,6 @@ use Rattle.table.specs.Laws.{sound-gives}
 use borrow.Author.Needs.{needs}
 use Rattle.checker.proofs.Probe.at.Statement.{statement}
 use Rattle.checker.proofs.Probe.at.Tie as tie
-use Rattle.checker.proofs.Probe.at.Reads as reads
-use Rattle.checker.proofs.Probe.at.Lts as lts
 
 mul-t5 : tie.Need-mul-t5
 mul-t5 c = search needs
