@@ -9,13 +9,13 @@
 -- Assumes nothing.
 use mathlib.Core.Path.{_≡_}
 use mathlib.Core.Logic.{_⊎_}
-use mathlib.Core.Bool.{Bool, true, false, not}
+use mathlib.Core.Bool.{not}
 use mathlib.Core.List.{List}
-use Prim.Native.Nat.{ℕ, suc, _-_, _<_}
+use Prim.Native.Nat.{ℕ, _<_}
 use lib.Dec.{ltb}
 use lib.ListN.{length}
-use Rattle.lists.specs.Pick.{pick}
-use Rattle.lists.specs.Lowest.{lowest, lowestFrom}
+use Rattle.lists.specs.Pick.{pick, both}
+use Rattle.lists.specs.Lowest.{lowest}
 use Rattle.lists.specs.Refusals.{First}
 use Rattle.lists.specs.Answering.{firstOf}
 use Rattle.words.specs.declared.Answer.{Answer}
@@ -38,7 +38,7 @@ module _ (Ts qs ss : List ℕ) where
 
   -- the least probe above i that i meets; the number of probes where there is none
   unfoldable pub partner : ℕ → ℕ
-  partner i = lowestFrom (λ j. not (apartAt Ts qs ss i j)) (suc i) (length Ts - suc i)
+  partner i = lowest (λ j. both (ltb i j) (not (apartAt Ts qs ss i j))) (length Ts)
 
   unfoldable pub opener : ℕ
   opener = lowest (λ i. ltb (partner i) (length Ts)) (length Ts)

@@ -7,15 +7,16 @@
 --     NextStart Ts ss t a      a names the least tick from t on at which some probe starts a read, and the lowest such probe; or no start   (believe this)
 --     NextFrom Ts ps ss t a    the promise of `next_start`
 --     phase T s t              ticks since the start of the read or pause that t lies in; t is not before s
+--     candidate T s t          the first start of one probe from t on
 --     holderOf, nextOf         the same, computed: one pass over the probes
 -- Edges: clean or not; the empty table answers idle, or no start; after a read's last tick the wire is free.
 -- Assumes nothing.
 use mathlib.Core.Path.{_≡_}
 use mathlib.Core.Logic.{_⊎_}
-use mathlib.Core.Bool.{Bool, true, false}
+use mathlib.Core.Bool.{Bool}
 use mathlib.Core.List.{List, [], _∷_, _++_}
-use Prim.Native.Nat.{ℕ, zero, suc, _+_, _-_, _*_, _/_, _%_, _≤_, _<_}
-use lib.Dec.{leb, ltb}
+use Prim.Native.Nat.{ℕ, zero, suc, _+_, _-_, _%_, _≤_, _<_}
+use lib.Dec.{leb, ltb, eqb}
 use lib.ListN.{length, getD}
 use Rattle.lists.specs.Pick.{pick, both}
 use Rattle.lists.specs.Lowest.{Lowest, lowest}
@@ -77,9 +78,9 @@ module _ (Ts ss : List ℕ) (t : ℕ) where
 unfoldable pub NextFrom : List ℕ → List ℕ → List ℕ → ℕ → Answer → Type 0
 NextFrom Ts ps ss t a = First (askLines Ts ps ss t) refused (NextStart Ts ss t) a
 
--- the first start of one probe from t on
+-- the first start of one probe from t on: its start, or t where a read starts then, or the rest of the turn later
 unfoldable pub candidate : ℕ → ℕ → ℕ → ℕ
-candidate T s t = pick (leb t s) s (s + (t - s + (T - 1)) / T * T)
+candidate T s t = pick (leb t s) s (pick (eqb (phase T s t) 0) t (t + (T - phase T s t)))
 
 -- "none" or a probe and its start, folded over the probes from the first
 unfoldable pub nextOf : List ℕ → List ℕ → ℕ → ℕ → Answer
