@@ -220,8 +220,8 @@ pub fn late(periods: &[u32], starts: &[u32]) -> usize
     i
 }
 
-// A refusal at a place of the table.
-fn at_place(number: u32, place: usize) -> Answer
+// A refusal at a place of the table, for every judge.
+pub fn at_place(number: u32, place: usize) -> Answer
     requires { ⌜ place ≤ mostProbes ⌝ }
     ensures { λ r. ⌜ r ≡ record { number = number; index = place; second = 0; tick = 0 } ⌝ }
 {
