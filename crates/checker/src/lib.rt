@@ -1,4 +1,4 @@
-// The checker: whether a list is clean on the wire, and if not, which pair meets first and when.
+// The checker: whether a list is clean on the wire, and if not, the least pair that meets and its first shared tick.
 ghost use mathlib.Core.Path.{_≡_};
 ghost use Prim.Native.Nat.{_≤_, _<_};
 ghost use lib.ListN.{length};
