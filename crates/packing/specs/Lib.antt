@@ -3,3 +3,4 @@ pub mod Plan
 pub mod Checks
 pub mod Ways
 pub mod Sound
+pub mod Ends
