@@ -2,9 +2,10 @@
 --     lent rows y h     the rows from y up to y + h
 --     lent-row          row k of that part is row y + k of the column, and there is one
 --     lent-raised       the part given back raised by p makes the column raised by p from y for h rows
+-- Edges: where h is 0 nothing is lent, and the column stays.
 -- Assumes nothing.
 use mathlib.Core.Path.{_≡_, ap, _∙_}
-use mathlib.Core.List.{List, _++_}
+use mathlib.Core.List.{List}
 use Prim.Native.Nat.{ℕ, _+_, _-_, _≤_, _<_}
 use native.Mathlib.Omega.{arith}
 use lib.ListN.{length, getD, take, drop, length-drop}

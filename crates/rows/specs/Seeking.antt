@@ -6,18 +6,20 @@
 --     seeking-next             a sub-bin without room is passed
 --     seeking-found            a sub-bin with room is the lowest: the search ends at its first row
 --     seeking-none             past the last row no sub-bin has room
+-- Edges: with no rows the search ends at row 0, the number of rows.
+-- Not said here: that the rows of a sub-bin have one fill, so that its first row speaks for all (crate stack, specs/Rows).
 -- Assumes nothing.
-use mathlib.Core.Path.{_≡_, refl, sym, ap, _∙_}
+use mathlib.Core.Path.{_≡_, sym, ap, _∙_}
 use mathlib.Core.List.{List}
-use Prim.Native.Nat.{ℕ, zero, suc, _+_, _*_, _/_, _≤_, _<_, _∣_}
-use native.Mathlib.Nat.{div-mul-cancel, mul-le-mul-right, add-mul, zero-mul, one-mul}
+use Prim.Native.Nat.{ℕ, _+_, _*_, _≤_, _<_, _∣_}
+use native.Mathlib.Nat.{div-mul-cancel, mul-le-mul-right, zero-mul}
 use native.Mathlib.Decide.{decLt}
 use native.Mathlib.Omega.{arith}
 use lib.ListN.{length, getD}
 use Rattle.lists.specs.Pick.{Tells}
 use Rattle.lists.specs.Lowest.{Searching, searching-start, searching-next, searching-found, searching-none}
 use Rattle.lists.specs.Telling.{tells-le, tells-true, tells-false}
-use Rattle.stack.specs.Stack.{Fits, fits, bins, lowestBin}
+use Rattle.stack.specs.Stack.{fits, bins, lowestBin}
 
 pub record Seeking (rows : List ℕ) (h p w y : ℕ) : Type 0 where
   pub bin : ℕ

@@ -38,10 +38,10 @@ fn raise(part: &mut [u32], p: u32)
     requires { ⌜ ((k : ℕ) → k < length (now part) → getD (now part) k 0 + p < 4294967296) ⌝ }
     ensures { λ r. ⌜ now (part .exit) ≡ raise p (now (part .entry)) ⌝ }
 {
-    let mut i = 0;
-    while i < part.len() {
-        part[i] = part[i] + p;
-        i += 1;
+    let mut row = 0;
+    while row < part.len() {
+        part[row] = part[row] + p;
+        row += 1;
     }
 }
 

@@ -1,14 +1,12 @@
 -- `rows::clear` meets its contract: the first i rows hold 0, the others what they held. Assumes nothing.
-use mathlib.Core.Path.{_≡_, _∙_}
-use Prim.Native.Nat.{ℕ, _≤_, _<_, _-_}
+use mathlib.Core.Path.{_∙_}
+use Prim.Native.Nat.{_-_}
 use native.Mathlib.Omega.{arith}
 use lib.ListN.{length}
 use Rattle.rows.specs.Passing.{Passing, cleared, map-cleared, passing-start, passing-length, passing-next, passing-done}
 use borrow.Author.Needs.{needs}
 use Rattle.rows.proofs.clear.Statement.{statement}
 use Rattle.rows.proofs.clear.Tie as tie
-use Rattle.rows.proofs.clear.Reads as reads
-use Rattle.rows.proofs.clear.Lts as lts
 
 abbrev Inv-loop : tie.InvT-loop
 Inv-loop rows₀ i₀ rows i = Passing cleared rows₀ rows i
@@ -46,7 +44,8 @@ same-length c =
 returns : tie.Need-returns Inv-loop μ-loop
 returns c =
     let l = c .before .loop in
-    passing-done cleared _ (l .rows) (l .i) (l .inv) (omega (arith, passing-length cleared _ (l .rows) (l .i) (l .inv))) ∙ map-cleared (c .before .before .args .rows .now)
+    passing-done cleared _ (l .rows) (l .i) (l .inv) (omega (arith, passing-length cleared _ (l .rows) (l .i) (l .inv)))
+    ∙ map-cleared (c .before .before .args .rows .now)
 
 pub clear-spec : {M : Type 1} → statement M
 clear-spec =

@@ -1,13 +1,11 @@
 -- `rows::lowest_row` meets its contract: y is the first row of a sub-bin, and none below it has room. Assumes nothing.
-use Prim.Native.Nat.{ℕ, _≤_, _<_, _-_}
+use Prim.Native.Nat.{_-_}
 use native.Mathlib.Omega.{arith}
 use lib.ListN.{length}
 use Rattle.rows.specs.Seeking.{Seeking, seeking-start, seeking-within, seeking-next, seeking-found, seeking-none}
 use borrow.Author.Needs.{needs}
 use Rattle.rows.proofs.lowest_row.Statement.{statement}
 use Rattle.rows.proofs.lowest_row.Tie as tie
-use Rattle.rows.proofs.lowest_row.Reads as reads
-use Rattle.rows.proofs.lowest_row.Lts as lts
 
 abbrev Inv-loop : tie.InvT-loop
 Inv-loop rows h p w room y₀ y = Seeking rows h p w y

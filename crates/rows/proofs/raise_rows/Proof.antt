@@ -1,13 +1,10 @@
 -- `rows::raise_rows` meets its contract: the part that is lent comes back raised, and stands where it stood. Assumes nothing.
-use Prim.Native.Nat.{ℕ, _+_, _≤_, _<_, _-_}
+use Prim.Native.Nat.{_+_}
 use native.Mathlib.Omega.{arith}
 use Rattle.rows.specs.Lending.{lent-row, lent-raised}
 use borrow.Author.Needs.{needs}
 use Rattle.rows.proofs.raise_rows.Statement.{statement}
 use Rattle.rows.proofs.raise_rows.Tie as tie
-use Rattle.rows.proofs.raise_rows.Reads as reads
-use Rattle.rows.proofs.raise_rows.Lts as lts
-use Rattle.rows.proofs.raise.Reads as raise-reads
 
 add-e : tie.Need-add-e
 add-e c = search needs
