@@ -140,11 +140,11 @@ module _ (Ts ps ss fs : List ℕ) (a : Answer) (e : a ≡ firstOf (planFindings 
       let q = refused-end (planFindings Ts ps ss fs) (refusedPlan Ts ps ss fs) (placed Ts ps ss fs) a e (λ b. outcome b ss fs) (λ k i. refl) n in
       rw q (planned-meets Ts ps ss fs)
 
-  pub plan-end : a .number ≡ 0 → (r : Answer) (zs gs cs : List ℕ) → outcome r zs gs ≡ fitted Ts ps (order Ts ps) ss cs → cs ≡ replicate (rows Ts) 0
-      → Plans Ts ps ss fs (outcome r zs (gs ++ drop (rows Ts) fs))
+  pub plan-end : a .number ≡ 0 → (m : ℕ) → m ≡ rows Ts → (r : Answer) (zs gs cs : List ℕ) → outcome r zs gs ≡ fitted Ts ps (order Ts ps) ss cs → cs ≡ replicate (rows Ts) 0
+      → Plans Ts ps ss fs (outcome r zs (gs ++ drop m fs))
   unfolding planned placed
-  plan-end z r zs gs cs f k =
+  plan-end z m em r zs gs cs f k =
       let d = done-end (planFindings Ts ps ss fs) (refusedPlan Ts ps ss fs) (placed Ts ps ss fs) a e (plan-numbered Ts ps ss fs) z in
       let g : outcome r zs gs ≡ fitted Ts (widths 0 ps) (order Ts ps) ss (replicate (rows Ts) 0) = rw (widths-none ps, ← k) f in
       let q : outcome r zs (gs ++ drop (rows Ts) fs) ≡ placed Ts ps ss fs = ap (λ (o : Outcome). outcome (o .answer) (o .starts) (o .fills ++ drop (rows Ts) fs)) g in
-      rw (q ∙ sym (d .1)) (planned-meets Ts ps ss fs)
+      rw (em, q ∙ sym (d .1)) (planned-meets Ts ps ss fs)
