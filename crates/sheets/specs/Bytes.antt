@@ -1,4 +1,5 @@
 -- NUMBERS AS BYTES. Document 01, "The book": "numbers least byte first".
+--     byteValues            256: a byte is a number below it
 --     bytes k x             x in k bytes, least first
 --     value bs              the number that bytes make, least first
 --     word k at bs          the number in the k bytes at a place
@@ -13,6 +14,9 @@ use Prim.Native.Nat.{ℕ, zero, suc, _+_, _*_, _/_, _%_}
 use lib.Dec.{eqb}
 use lib.ListN.{take, drop}
 use Rattle.lists.specs.Pick.{both}
+
+abbrev pub byteValues : ℕ
+byteValues = 256
 
 unfoldable pub bytes : ℕ → ℕ → List ℕ
 bytes zero x = []

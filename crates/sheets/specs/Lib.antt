@@ -1,0 +1,5 @@
+pub mod Bytes
+pub mod Layout
+pub mod Cases
+pub mod ByteLaws
+pub mod LayoutLaws
