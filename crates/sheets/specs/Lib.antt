@@ -1,5 +1,6 @@
 pub mod Bytes
 pub mod Layout
 pub mod Cases
+pub mod Runs
 pub mod ByteLaws
 pub mod LayoutLaws
