@@ -24,10 +24,12 @@ impl Book {
 
     pub const SUMS2: usize = 508;
 
-    // The bytes of a record, the records of a block, the most probes.
+    // The bytes of a record, the records of a block, the most blocks, the most probes.
     pub const RECORD: usize = 12;
 
     pub const RECORDS: usize = 41;
+
+    pub const BLOCKS: usize = 7;
 
     pub const PROBES: usize = 256;
 
@@ -72,6 +74,12 @@ impl Book {
         ensures { λ r. ⌜ r ≡ firstEdition .records ⌝ }
     {
         Book::RECORDS
+    }
+
+    pub fn tie_blocks() -> usize
+        ensures { λ r. ⌜ r ≡ firstEdition .mostBlocks ⌝ }
+    {
+        Book::BLOCKS
     }
 
     pub fn tie_probes() -> usize
