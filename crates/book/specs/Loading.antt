@@ -2,9 +2,12 @@
 --     block-long            a block has 512 bytes
 --     part-verdict          the verdict of the part that the code lends on
 --     field-room            every number of the first n records stands within the book
---     load-next, load-done  one more entry of a column
+--     load-next             one more entry of a column
+--     Passed bs a           what is known where no block is bad
+--     done-is               three columns filled are what a done reading leaves
 -- Assumes nothing.
 use mathlib.Core.Path.{_≡_, refl, sym, ap, _∙_}
+use mathlib.Core.Bool.{false}
 use mathlib.Core.List.{List, [], _∷_, _++_, append-assoc}
 use Prim.Native.Nat.{ℕ, zero, suc, _+_, _-_, _*_, _/_, _%_, _≤_, _<_}
 use native.Mathlib.Nat.{add-zero, zero-add}
@@ -16,8 +19,11 @@ use Rattle.sheets.specs.Bytes.{word}
 use Rattle.sheets.specs.Layout.{Layout, firstEdition, blockBytes, headBytes, mostN, blocksOf}
 use Rattle.sheets.specs.LayoutLaws.{blocks-more}
 use Rattle.judging.specs.Block.{blockVerdict}
-use Rattle.book.specs.Reading.{blockAt, blocksIn, nOf, field, column}
-use Rattle.book.specs.ReadLaws.{verdictAt}
+use Rattle.judging.specs.BlockLaws.{RightField}
+use Rattle.words.specs.declared.Answer.{Answer}
+use Rattle.words.specs.Answers.{refused}
+use Rattle.book.specs.Reading.{badSize, blockAt, blocksIn, nOf, judgedBlocks, field, column, columns, doneRead}
+use Rattle.book.specs.ReadLaws.{verdictAt, judged-right, RightBlock, right-block, RightSize, size-tested, read-n}
 
 module _ (bs : List ℕ) (b : ℕ) where
   pub block-long : b < blocksIn bs → length (blockAt b bs) ≡ blockBytes
@@ -76,3 +82,24 @@ module _ (L : Layout) (bs : List ℕ) (f : ℕ) where
     load-next h x v =
         rw (e, drop-cons l₀ i 0 h, set-at (column L bs f 0 i) (getD l₀ i 0) (drop (suc i) l₀) x i (length-column 0 i), column-next 0 i, zero-add i, v, add-one i)
         (sym (append-assoc (column L bs f 0 i) (field L bs f i ∷ []) (drop (suc i) l₀)))
+
+-- where no block is bad
+pub record Passed (bs : List ℕ) (a : Answer) : Type 0 where
+  pub n-is : a ≡ refused 0 (nOf bs)
+  pub few : a .index ≤ mostN
+  pub room : blocksOf firstEdition (a .index) * blockBytes ≤ length bs
+
+pub passed : (bs : List ℕ) (a : Answer) → badSize firstEdition bs ≡ false → a ≡ judgedBlocks firstEdition bs → a .number ≡ 0 → Passed bs a
+unfolding blocksIn
+passed bs a size judged right =
+    let s = size-tested firstEdition bs size in
+    let e = read-n firstEdition bs [] [] [] size a judged right in
+    let i : a .index ≡ nOf bs = ap (λ (z : Answer). z .index) e in
+    let r = right-block firstEdition (nOf bs) (length bs / 512) 0 (blockAt 0 bs) (judged-right firstEdition bs (rw judged at right) 0 (omega arith)) in
+    record { n-is = e; few = rw i (r .fields .few); room = rw (i, r .fields .count) (omega arith) }
+
+pub done-is : (L : Layout) (bs Ts ps ss Ts₁ ps₁ ss₁ : List ℕ) (a : Answer) → a ≡ refused 0 (nOf bs)
+    → Ts₁ ≡ column L bs 0 0 (a .index) ++ drop (a .index) Ts → ps₁ ≡ column L bs 1 0 (a .index) ++ drop (a .index) ps → ss₁ ≡ column L bs 2 0 (a .index) ++ drop (a .index) ss
+    → columns a Ts₁ ps₁ ss₁ ≡ doneRead L bs Ts ps ss
+unfolding doneRead
+done-is L bs Ts ps ss Ts₁ ps₁ ss₁ a e f g h = rw (f, g, h, e)

@@ -104,7 +104,7 @@ module _ (L : Layout) (bs : List ℕ) where
       where
         by : Dec (verdictAt b ≡ 0)
             → ((firstOf (blockFindings L bs (suc b) k) refused (refused 0 (nOf bs)) .number ≡ 0 → ⊥)
-                → firstOf (blockFindings L bs (suc b) k) refuse o ≡ refuse (firstOf (blockFindings L bs (suc b) k) refused (refused 0 (nOf bs)) .number) (firstOf (blockFindings L bs (suc b) k) refused (refused 0 (nOf bs)) .index))
+            → firstOf (blockFindings L bs (suc b) k) refuse o ≡ refuse (firstOf (blockFindings L bs (suc b) k) refused (refused 0 (nOf bs)) .number) (firstOf (blockFindings L bs (suc b) k) refused (refused 0 (nOf bs)) .index))
             → firstOf (blockFindings L bs b (suc k)) refuse o ≡ refuse (firstOf (blockFindings L bs b (suc k)) refused (refused 0 (nOf bs)) .number) (firstOf (blockFindings L bs b (suc k)) refused (refused 0 (nOf bs)) .index)
         by (yes z) ih =
             let same = block-passes refused (refused 0 (nOf bs)) b k z in
@@ -127,7 +127,7 @@ module _ (L : Layout) (bs : List ℕ) where
   searched-next b h z s = record {
     within = omega arith;
     rest = rw (add-one b) (sym (block-passes refused (refused 0 (nOf bs)) b (blocksIn bs - suc b) z) ∙ rw (left (blocksIn bs) b h) at (s .rest));
-    }
+  }
 
   pub searched-found : (b : ℕ) → b < blocksIn bs → (verdictAt b ≡ 0 → ⊥) → Searched b → refused (verdictAt b) b ≡ judgedBlocks L bs
   searched-found b h d s = sym (block-stops refused (refused 0 (nOf bs)) b (blocksIn bs - suc b) d) ∙ rw (left (blocksIn bs) b h) at (s .rest)
@@ -157,14 +157,16 @@ module _ (L : Layout) (n k b : ℕ) (B : List ℕ) where
         sums = wrong-sum-tells B .no p;
         fields = field-tested L n k b B q;
         zeros = used-unused-tells L n k b B .no r;
-        }
+      }
 
   pub block-right : RightBlock → blockVerdict L n k b B ≡ 0
   unfolding blockVerdict
   block-right r =
-      rw (tells-false (wrongSum B) (wrong-sum-tells B) (r .sums),
-      tells-false (wrongField L n k b B) (wrong-field-tells L n k b B) (right-not-wrong L n k b B (r .fields)),
-      tells-false (usedUnused L n b B) (used-unused-tells L n k b B) (r .zeros))
+      rw (
+        tells-false (wrongSum B) (wrong-sum-tells B) (r .sums),
+        tells-false (wrongField L n k b B) (wrong-field-tells L n k b B) (right-not-wrong L n k b B (r .fields)),
+        tells-false (usedUnused L n b B) (used-unused-tells L n k b B) (r .zeros),
+      )
 
 -- the size
 module _ (L : Layout) (bs : List ℕ) where
@@ -182,7 +184,7 @@ module _ (L : Layout) (bs : List ℕ) where
     some = some (decLt 0 (length bs));
     whole = same-number _ _ (λ d. r (inr (inl d)));
     most = most (decLt (L .mostBlocks * blockBytes) (length bs));
-    }
+  }
     where
       some : Dec (0 < length bs) → 0 < length bs
       some (yes h) = h
@@ -220,7 +222,7 @@ module _ (L : Layout) (bs Ts ps ss : List ℕ) where
     read-block n =
         let d : judgedBlocks L bs .number ≡ 0 → ⊥ = rw judged at n in
         let own : a ≡ refused (judgedBlocks L bs .number) (judgedBlocks L bs .index) =
-                judged ∙ from-stops L bs refused (refused 0 (nOf bs)) 0 (blocksIn bs) d in
+        judged ∙ from-stops L bs refused (refused 0 (nOf bs)) 0 (blocksIn bs) d in
         ap (λ (r : Answer). columns r Ts ps ss) own ∙ sym (split ∙ from-stops L bs (refusedRead L bs Ts ps ss) after 0 (blocksIn bs) d)
 
     module _ (right : a .number ≡ 0) where
@@ -248,20 +250,27 @@ finds-block k b C false t = record { number = refl; places = refl; place = recor
 blocks-find : (L : Layout) (bs : List ℕ) (b k : ℕ) → AllFind (blockLines L bs b k) (blockFindings L bs b k)
 unfolding blockLines blockFindings AllFind
 blocks-find L bs b zero = tt
-blocks-find L bs b (suc k) =
-    (finds-block 21 b _ _ (wrong-sum-tells (blockAt b bs)),
-    (finds-block 22 b _ _ (wrong-field-tells L (nOf bs) (blocksIn bs) b (blockAt b bs)),
-    (finds-block 23 b _ _ (used-unused-tells L (nOf bs) (blocksIn bs) b (blockAt b bs)), blocks-find L bs (suc b) k)))
+blocks-find L bs b (suc k) = (
+  finds-block 21 b _ _ (wrong-sum-tells (blockAt b bs)),
+  (
+    finds-block 22 b _ _ (wrong-field-tells L (nOf bs) (blocksIn bs) b (blockAt b bs)),
+    (finds-block 23 b _ _ (used-unused-tells L (nOf bs) (blocksIn bs) b (blockAt b bs)), blocks-find L bs (suc b) k),
+  ),
+)
 
 pub read-finds : (L : Layout) (bs Ts ps ss : List ℕ) → AllFind (readLines L bs Ts ps ss) (readFindings L bs Ts ps ss)
 unfolding readFindings AllFind
-read-finds L bs Ts ps ss =
-    (finds-whole 20 (BadSize L bs) (badSize L bs) (bad-size-tells L bs),
-    all-find-append (blockLines L bs 0 (blocksIn bs)) (whole 24 (ShortColumn L bs Ts ps ss) ∷ []) (blockFindings L bs 0 (blocksIn bs)) _
-    (blocks-find L bs 0 (blocksIn bs)) (finds-whole 24 (ShortColumn L bs Ts ps ss) _ (short-tells L bs Ts ps ss), tt))
+read-finds L bs Ts ps ss = (
+  finds-whole 20 (BadSize L bs) (badSize L bs) (bad-size-tells L bs),
+  all-find-append (blockLines L bs 0 (blocksIn bs)) (whole 24 (ShortColumn L bs Ts ps ss) ∷ []) (blockFindings L bs 0 (blocksIn bs)) _
+      (blocks-find L bs 0 (blocksIn bs)) (finds-whole 24 (ShortColumn L bs Ts ps ss) _ (short-tells L bs Ts ps ss), tt),
+)
 
 pub read-meets : (L : Layout) (bs Ts ps ss : List ℕ) → Reads L bs Ts ps ss (readOf L bs Ts ps ss)
 unfolding Reads readOf
 read-meets L bs Ts ps ss =
     first-of (readLines L bs Ts ps ss) (readFindings L bs Ts ps ss) (refusedRead L bs Ts ps ss) (λ r. r ≡ doneRead L bs Ts ps ss) (doneRead L bs Ts ps ss)
     (read-finds L bs Ts ps ss) (λ s. refl)
+
+pub reads-as : (L : Layout) (bs Ts ps ss : List ℕ) (o : Columns) → o ≡ readOf L bs Ts ps ss → Reads L bs Ts ps ss o
+reads-as L bs Ts ps ss o e = rw e (read-meets L bs Ts ps ss)

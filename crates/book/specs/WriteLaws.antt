@@ -16,12 +16,13 @@ use Rattle.lists.specs.Pick.{pick, either, Tells}
 use Rattle.lists.specs.Telling.{tells-either, tells-not, tells-lt, tells-eq}
 use Rattle.lists.specs.Refusals.{whole}
 use Rattle.lists.specs.Answering.{AllFind, tested, firstOf, first-of, finds-whole}
+use Rattle.words.specs.declared.Answer.{Answer}
 use Rattle.words.specs.Answers.{refused}
 use Rattle.sheets.specs.Layout.{Layout, firstEdition, blockBytes, mostN, blocksOf}
 use Rattle.sheets.specs.Runs.{runFrom, length-run}
 use Rattle.filling.specs.Filling.{blockOf}
 use Rattle.filling.specs.FillingLaws.{length-block}
-use Rattle.book.specs.Writing.{bookOf, pages, writeLines, writeFindings, refusedWrite, doneWrite, Writes, writeOf}
+use Rattle.book.specs.Writing.{bookOf, Pages, pages, writeLines, writeFindings, refusedWrite, doneWrite, Writes, writeOf}
 
 pub length-book : (Ts ps ss : List ℕ) → length (bookOf firstEdition Ts ps ss) ≡ blocksOf firstEdition (length Ts) * blockBytes
 unfolding bookOf
@@ -53,9 +54,10 @@ module _ (L : Layout) (Ts ps ss out : List ℕ) where
 
   pub write-finds : AllFind (writeLines L Ts ps ss out) (writeFindings L Ts ps ss out)
   unfolding writeFindings AllFind
-  write-finds =
-      (finds-whole 1 _ _ (tells-either _ _ (tells-not _ (tells-eq _ _)) (tells-not _ (tells-eq _ _))),
-      (finds-whole 2 _ _ (tells-lt _ _), (finds-whole 7 _ _ (tells-lt _ _), tt)))
+  write-finds = (
+    finds-whole 1 _ _ (tells-either _ _ (tells-not _ (tells-eq _ _)) (tells-not _ (tells-eq _ _))),
+    (finds-whole 2 _ _ (tells-lt _ _), (finds-whole 7 _ _ (tells-lt _ _), tt)),
+  )
 
   pub write-meets : Writes L Ts ps ss out (writeOf L Ts ps ss out)
   unfolding Writes writeOf
@@ -77,3 +79,15 @@ pub part-stored : (l ys : List ℕ) (a e : ℕ) → a ≤ e → length ys ≡ e 
 part-stored l ys a e h long room =
     let end : a + (e - a) ≡ a + length ys = omega arith in
     sym (sets-eq ys l a (omega arith) ∙ append-assoc (take a l) ys (drop (a + length ys) l) ∙ ap (λ (z : List ℕ). take a l ++ (ys ++ z)) (sym (drop-drop (e - a) a l ∙ ap (λ (n : ℕ). drop n l) end)))
+
+pub writes-as : (L : Layout) (Ts ps ss out : List ℕ) (o : Pages) → o ≡ writeOf L Ts ps ss out → Writes L Ts ps ss out o
+writes-as L Ts ps ss out o e = rw e (write-meets L Ts ps ss out)
+
+pub done-writes : (Ts ps ss out after : List ℕ) (a : Answer) (blocks : ℕ) → length Ts ≡ length ss → length Ts ≡ length ps → length Ts ≤ mostN
+    → blocks ≡ blocksOf firstEdition (length Ts) → blocks * blockBytes ≤ length out
+    → a ≡ refused 0 (blocks * blockBytes) → after ≡ sets out 0 (runFrom (blockOf firstEdition Ts ps ss) 0 blocks)
+    → pages a after ≡ writeOf firstEdition Ts ps ss out
+unfolding doneWrite
+done-writes Ts ps ss out after a blocks same same′ few e room answer stored =
+    let room′ : blocksOf firstEdition (length Ts) * blockBytes ≤ length out = rw e at room in
+    rw (answer, book-stored Ts ps ss out after room′ (stored ∙ rw e), e) (write-done firstEdition Ts ps ss out same same′ few room′)

@@ -95,7 +95,7 @@ module _ (Ts ps ss : List ℕ) (b : ℕ) where
     filled =
         sums
         ∙ rw (body-there, body-stored)
-          (sets-on l₀ 0 sumPlace (bodyOf firstEdition Ts ps ss b) (sumsOf (bodyOf firstEdition Ts ps ss b)) (omega (arith, length-body))
-          ∙ sets-eq (blockOf firstEdition Ts ps ss b) l₀ 0 (omega (arith, length-block))
-          ∙ ap (λ (z : List ℕ). blockOf firstEdition Ts ps ss b ++ z) (drop-of-length-le l₀ {i = 0 + length (blockOf firstEdition Ts ps ss b)} (omega (arith, length-block)))
-          ∙ append-nil (blockOf firstEdition Ts ps ss b))
+        (sets-on l₀ 0 sumPlace (bodyOf firstEdition Ts ps ss b) (sumsOf (bodyOf firstEdition Ts ps ss b)) (omega (arith, length-body))
+        ∙ sets-eq (blockOf firstEdition Ts ps ss b) l₀ 0 (omega (arith, length-block))
+        ∙ ap (λ (z : List ℕ). blockOf firstEdition Ts ps ss b ++ z) (drop-of-length-le l₀ {i = 0 + length (blockOf firstEdition Ts ps ss b)} (omega (arith, length-block)))
+        ∙ append-nil (blockOf firstEdition Ts ps ss b))

@@ -61,7 +61,14 @@ fn put_record(block: &mut [u8], at: usize, period: u32, read: u32, start: u32)
 }
 
 // k records from record `first` on, from where the records of a block begin.
-fn put_records(block: &mut [u8], periods: &[u32], lengths: &[u32], starts: &[u32], first: usize, k: usize)
+fn put_records(
+    block: &mut [u8],
+    periods: &[u32],
+    lengths: &[u32],
+    starts: &[u32],
+    first: usize,
+    k: usize,
+)
     requires { ⌜ length (now block) ≡ blockBytes ⌝ }
     requires { ⌜ k ≤ firstEdition .records ⌝ }
     requires { ⌜ first + k ≤ length (now periods) ⌝ }
@@ -72,7 +79,13 @@ fn put_records(block: &mut [u8], periods: &[u32], lengths: &[u32], starts: &[u32
     let mut j = 0;
     while j < k {
         let i = first + j;
-        put_record(block, Book::HEAD + j * Book::RECORD, periods[i], lengths[i], starts[i]);
+        put_record(
+            block,
+            Book::HEAD + j * Book::RECORD,
+            periods[i],
+            lengths[i],
+            starts[i],
+        );
         j += 1;
     }
 }

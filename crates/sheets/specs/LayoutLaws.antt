@@ -2,13 +2,14 @@
 --     blocks-some           there is a block
 --     blocks-room           the blocks have room for n records
 --     blocks-least          no block but that of n = 0 is without a record
+--     blocks-few            there are no more than n + 1 blocks
 --     records-most          a block holds no more than it has room for
 --     records-end           its records are among the n
 --     records-full, records-last   every block but the last is full; the last ends with record n
 -- Assumes nothing.
 use mathlib.Core.Path.{_≡_, refl, sym, ap, _∙_}
 use Prim.Native.Nat.{ℕ, zero, suc, _+_, _-_, _*_, _/_, _≤_, _<_}
-use native.Mathlib.Nat.{div-mul-le-self, lt-div-mul-add, mul-le-mul-right}
+use native.Mathlib.Nat.{div-mul-le-self, lt-div-mul-add, mul-le-mul-left, mul-le-mul-right}
 use native.Mathlib.Decide.{decLt, ℕ-discrete}
 use native.Mathlib.Omega.{arith}
 use borrow.Author.Tests.{eq-eqb, ne-eqb, lt-ltb, le-ltb}
@@ -66,6 +67,12 @@ module _ (L : Layout) (full : 0 < L .records) (n : ℕ) where
           let z : b ≡ 0 = omega (arith, blocks-none L n e) in
           rw z (omega arith)
       by (no d) = omega (arith, blocks-low d, mul-le-mul-right (L .records) h)
+
+  pub blocks-few : blocksOf L n ≤ n + 1
+  blocks-few = by (blocksOf L n - 1) (omega (arith, blocks-some))
+    where
+      by : (b : ℕ) → b + 1 ≡ blocksOf L n → blocksOf L n ≤ n + 1
+      by b e = omega (arith, blocks-least b (omega arith), mul-le-mul-left b full)
 
   pub records-last : (b : ℕ) → b + 1 ≡ blocksOf L n → b * L .records + recordsOf L n b ≡ n
   records-last b e = omega (arith, records-rest L n b (omega arith), blocks-least b (omega arith))

@@ -54,11 +54,11 @@ module _ (f : ℕ → List ℕ) where
         let z : 0 * m ≡ 0 = omega arith in
         let first : take m X ≡ f i = rw (z, add-zero i) at (each 0 (omega arith)) in
         let rest : runFrom f (suc i) k ≡ drop m X =
-                run-of (suc i) k (drop m X) (rw (length-drop m X) (omega arith))
-                (λ j h.
-                  let e : suc j * m ≡ m + j * m = omega arith in
-                  let g : suc i + j ≡ i + suc j = omega arith in
-                  rw (drop-drop (j * m) m X, ← e, g) (each (suc j) (omega arith))) in
+        run-of (suc i) k (drop m X) (rw (length-drop m X) (omega arith))
+        (λ j h.
+        let e : suc j * m ≡ m + j * m = omega arith in
+        let g : suc i + j ≡ i + suc j = omega arith in
+        rw (drop-drop (j * m) m X, ← e, g) (each (suc j) (omega arith))) in
         rw (rest, ← first) (take-append-drop m X)
 
 -- stores that go on where others ended

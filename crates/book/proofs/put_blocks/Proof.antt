@@ -102,11 +102,12 @@ loop-again c =
     let Ts = c .before .before .before .before .before .before .before .before .before .before .args .periods .now in
     let ps = c .before .before .before .before .before .before .before .before .before .before .args .lengths .now in
     let ss = c .before .before .before .before .before .before .before .before .before .before .args .starts .now in
-    let long : length (l .out) ≡ length o = ap (λ z. length z) (l .inv .1) ∙ length-sets o 0 (runFrom (blockOf firstEdition Ts ps ss) 0 (l .b)) in
-    (omega arith,
-    run-store (blockOf firstEdition Ts ps ss) 512 (length-block Ts ps ss) o (l .out) _ 0 0 (l .b) (l .b * 512) (l .inv .1) (omega arith)
-    (rw (c .before .before .put-block .ensures, zero-add (l .b))
-    (part-stored (l .out) (blockOf firstEdition Ts ps ss (l .b)) (l .b * 512) (l .b * 512 + 512) (omega arith) (omega (arith, length-block Ts ps ss (l .b))) (omega arith))))
+    let long : length (l .out) ≡ length o = ap (λ z. length z) (l .inv .1) ∙ length-sets o 0 (runFrom (blockOf firstEdition Ts ps ss) 0 (l .b)) in (
+      omega arith,
+      run-store (blockOf firstEdition Ts ps ss) 512 (length-block Ts ps ss) o (l .out) _ 0 0 (l .b) (l .b * 512) (l .inv .1) (omega arith)
+          (rw (c .before .before .put-block .ensures, zero-add (l .b))
+          (part-stored (l .out) (blockOf firstEdition Ts ps ss (l .b)) (l .b * 512) (l .b * 512 + 512) (omega arith) (omega (arith, length-block Ts ps ss (l .b))) (omega arith))),
+    )
 
 same-length : tie.Need-same-length Inv-loop μ-loop
 same-length c =
