@@ -5,3 +5,5 @@ pub mod Cases
 pub mod ReadLaws
 pub mod Loading
 pub mod WriteLaws
+pub mod ReadThenWrite
+pub mod WriteThenRead

@@ -1,5 +1,4 @@
 -- LAWS OF BYTES AND SUMS.
---     AreBytes bs           every one of them is below 256
 --     word-two, word-four   a number at a place, byte by byte
 --     value-bytes, bytes-value    a number in k bytes, and back
 --     sum-next, place-next  the two sums over one byte more
@@ -19,10 +18,7 @@ use lib.Seq.{drop-cons, take-suc, length-take-le, slice-cons, slice-empty}
 use borrow.Author.Tests.{eq-eqb, ne-eqb}
 use Rattle.lists.specs.Pick.{both, Tells}
 use Rattle.lists.specs.Telling.{tells-both, tells-eq, tells-yes}
-use Rattle.sheets.specs.Bytes.{bytes, value, word, byteSum, placeSum, AllZero, allZero}
-
-abbrev pub AreBytes : List ℕ → Type 0
-AreBytes bs = (i : ℕ) → getD bs i 0 < 256
+use Rattle.sheets.specs.Bytes.{AreBytes, bytes, value, word, byteSum, placeSum, AllZero, allZero}
 
 -- a number at a place
 pub word-two : (bs : List ℕ) (at : ℕ) → at + 2 ≤ length bs → getD bs at 0 + 256 * getD bs (at + 1) 0 ≡ word 2 at bs

@@ -4,3 +4,4 @@ pub mod Cases
 pub mod Runs
 pub mod ByteLaws
 pub mod LayoutLaws
+pub mod Pieces
