@@ -7,3 +7,4 @@ pub mod Loading
 pub mod WriteLaws
 pub mod ReadThenWrite
 pub mod WriteThenRead
+pub mod RoundTrips

@@ -1,7 +1,7 @@
 -- LAWS OF READING: the search of the first bad block, the ways out of `read`, and that what is computed meets the promise.
 --     verdictAt L bs b      the verdict of block b
 --     Searched L bs b       what a loop knows that has passed the blocks below b
---     judged-right          where none is bad, every block's verdict is 0
+--     judged-right, right-judged   none is bad exactly where every block's verdict is 0
 --     RightSize L bs        what 20 leaves of the size
 --     read-size, ..         the ways out
 --     read-meets            readOf meets Reads
@@ -85,6 +85,20 @@ module _ (L : Layout) (bs : List ℕ) where
   pub judged-right : judgedBlocks L bs .number ≡ 0 → (b : ℕ) → b < blocksIn bs → verdictAt b ≡ 0
   unfolding judgedBlocks judgedFrom
   judged-right e b h = rw zero-add at (from-right 0 (blocksIn bs) e b h)
+
+  from-all : (b k : ℕ) → ((j : ℕ) → j < k → verdictAt (b + j) ≡ 0) → judgedFrom b k ≡ refused 0 (nOf bs)
+  unfolding judgedFrom blockFindings firstOf
+  from-all b zero each = refl
+  from-all b (suc k) each =
+      block-passes refused (refused 0 (nOf bs)) b k (rw (add-zero b) at (each 0 (omega arith)))
+      ∙ from-all (suc b) k
+      (λ j h.
+      let g : suc b + j ≡ b + suc j = omega arith in
+      rw g (each (suc j) (omega arith)))
+
+  pub right-judged : ((b : ℕ) → b < blocksIn bs → verdictAt b ≡ 0) → judgedBlocks L bs ≡ refused 0 (nOf bs)
+  unfolding judgedBlocks judgedFrom
+  right-judged each = from-all 0 (blocksIn bs) (λ j h. rw (zero-add j) (each j h))
 
   module _ {O : Type 0} (refuse : ℕ → ℕ → O) (o : O) where
     from-passes : (b k : ℕ) → judgedFrom b k .number ≡ 0 → firstOf (blockFindings L bs b k) refuse o ≡ o

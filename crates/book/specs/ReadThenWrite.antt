@@ -50,12 +50,16 @@ module _ (B : List ℕ) (are : AreBytes B) (long : length B ≡ blockBytes) (n k
   head-back : headOf firstEdition n b ≡ take 12 B
   unfolding headOf
   head-back =
-      rw (word-back 2 0 b (omega arith) (right .fields .number),
-      word-back 2 2 (blocksOf firstEdition n) (omega arith) (right .fields .blocks ∙ sym (right .fields .count)),
-      word-back 2 4 (recordsOf firstEdition n b) (omega arith) (right .fields .records),
-      word-back 2 6 n (omega arith) (right .fields .probes),
-      word-back 4 8 0 (omega arith) (right .fields .zeros),
-      join 6 2 4 B, join 4 2 6 B, join 2 2 8 B)
+      rw (
+        word-back 2 0 b (omega arith) (right .fields .number),
+        word-back 2 2 (blocksOf firstEdition n) (omega arith) (right .fields .blocks ∙ sym (right .fields .count)),
+        word-back 2 4 (recordsOf firstEdition n b) (omega arith) (right .fields .records),
+        word-back 2 6 n (omega arith) (right .fields .probes),
+        word-back 4 8 0 (omega arith) (right .fields .zeros),
+        join 6 2 4 B,
+        join 4 2 6 B,
+        join 2 2 8 B,
+      )
       (join 0 2 10 B)
 
   zeros-back : replicate ((41 - used) * 12) 0 ≡ drop (12 + used * 12) (take 504 B)

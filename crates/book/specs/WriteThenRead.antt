@@ -151,7 +151,7 @@ module _ (Ts ps ss : List ℕ) (few : length Ts ≤ mostN) where
       let most = records-most firstEdition (omega arith) (length Ts) b in
       sym (part-of-take (12 + j * 12) 12 504 (block b) (omega arith))
       ∙ rw (body-there b, ← drop-drop (j * 12) 12 (body b), behind-head b, part-of-left (j * 12) 12 (records b) (replicate ((41 - used b) * 12) 0) (omega (arith, records-long b)))
-        (run-piece (recordAt Ts ps ss) 12 (length-record Ts ps ss) (b * 41) j (used b) h)
+      (run-piece (recordAt Ts ps ss) 12 (length-record Ts ps ss) (b * 41) j (used b) h)
 
   held : (i : ℕ) → i < length Ts → i % 41 < recordsOf firstEdition (length Ts) (i / 41)
   held i h = by (decLt (i / 41 + 1) (blocksOf firstEdition (length Ts)))
@@ -180,8 +180,8 @@ module _ (Ts ps ss : List ℕ) (few : length Ts ≤ mostN) where
       let long = length-column firstEdition (bookOf firstEdition Ts ps ss) f 0 (length Ts) in
       ext-getD 0 (column firstEdition (bookOf firstEdition Ts ps ss) f 0 (length Ts)) xs (long ∙ same)
       (λ i h.
-        let l : i < length Ts = omega arith in
-        column-at firstEdition (bookOf firstEdition Ts ps ss) f 0 (length Ts) i l ∙ rw (zero-add i) (field-there f i g l ∙ each i l))
+      let l : i < length Ts = omega arith in
+      column-at firstEdition (bookOf firstEdition Ts ps ss) f 0 (length Ts) i l ∙ rw (zero-add i) (field-there f i g l ∙ each i l))
 
   pub periods-back : AreWords Ts → column firstEdition (bookOf firstEdition Ts ps ss) 0 0 (length Ts) ≡ Ts
   unfolding word recordAt recordOf bytes
