@@ -6,10 +6,8 @@ ghost use lib.ListN.{length, take, drop};
 ghost use Rattle.sheets.specs.Bytes.{byteValues, bytes, word, byteSum, placeSum, allZero};
 ghost use Rattle.sheets.specs.Layout.{firstEdition, blockBytes, headBytes, sumPlace, sumPlace2, mostN, blocksOf, recordsOf};
 
-// A book by its size: how many blocks it has. Its constants are what the first edition fixes.
-pub struct Book {
-    pub blocks: usize,
-}
+// The book: its constants are what the first edition fixes.
+pub struct Book {}
 
 impl Book {
     // A byte has as many values.
@@ -132,10 +130,10 @@ pub fn place_sum(block: &[u8]) -> u32
     ensures { λ r. ⌜ r ≡ placeSum 0 (take sumPlace (now (block .entry))) ⌝ }
 {
     let mut sum: usize = 0;
-    let mut i = 0;
-    while i < Book::SUMS {
-        sum += (i + 1) * block[i] as usize;
-        i += 1;
+    let mut place = 0;
+    while place < Book::SUMS {
+        sum += (place + 1) * block[place] as usize;
+        place += 1;
     }
     sum as u32
 }
@@ -146,12 +144,12 @@ pub fn all_zero(block: &[u8], from: usize) -> bool
     requires { ⌜ from ≤ sumPlace ⌝ }
     ensures { λ r. ⌜ r ≡ allZero (drop from (take sumPlace (now (block .entry)))) ⌝ }
 {
-    let mut i = from;
-    while i < Book::SUMS {
-        if block[i] != 0 {
+    let mut at = from;
+    while at < Book::SUMS {
+        if block[at] != 0 {
             return false;
         }
-        i += 1;
+        at += 1;
     }
     true
 }

@@ -13,10 +13,10 @@ use Rattle.sheets.proofs.all_zero.Reads as reads
 use Rattle.sheets.proofs.all_zero.Lts as lts
 
 abbrev Inv-loop : tie.InvT-loop
-Inv-loop block from i₀ i = (i ≤ sumPlace) × (allZero (drop i (take sumPlace block)) ≡ allZero (drop «from» (take sumPlace block)))
+Inv-loop block from at₀ at = (at ≤ sumPlace) × (allZero (drop at (take sumPlace block)) ≡ allZero (drop «from» (take sumPlace block)))
 
 abbrev μ-loop : tie.MeasureT-loop
-μ-loop block from i₀ i = sumPlace - i
+μ-loop block from at₀ at = sumPlace - at
 
 loop-holds : tie.Need-loop-holds Inv-loop μ-loop
 loop-holds c = (omega arith, refl)
@@ -28,10 +28,10 @@ returns : tie.Need-returns Inv-loop μ-loop
 returns c =
     let l = c .before .before .before .loop in
     let B = c .before .before .before .before .args .block .now in
-    zero-found B (l .i) sumPlace (omega arith) (omega arith) (c .if1 .taken) ∙ l .inv .1
+    zero-found B (l .at) sumPlace (omega arith) (omega arith) (c .if1 .taken) ∙ l .inv .1
 
-add-i : tie.Need-add-i Inv-loop μ-loop
-add-i c = search needs
+add-at : tie.Need-add-at Inv-loop μ-loop
+add-at c = search needs
 
 loop-less : tie.Need-loop-less Inv-loop μ-loop
 loop-less c = search needs
@@ -40,13 +40,13 @@ loop-again : tie.Need-loop-again Inv-loop μ-loop
 loop-again c =
     let l = c .before .before .before .loop in
     let B = c .before .before .before .before .args .block .now in
-    (omega arith, zero-next B (l .i) sumPlace (omega arith) (omega arith) (omega arith) ∙ l .inv .1)
+    (omega arith, zero-next B (l .at) sumPlace (omega arith) (omega arith) (omega arith) ∙ l .inv .1)
 
 returns-2 : tie.Need-returns-2 Inv-loop μ-loop
 returns-2 c =
     let l = c .before .loop in
     let B = c .before .before .args .block .now in
-    let e : l .i ≡ sumPlace = omega arith in
+    let e : l .at ≡ sumPlace = omega arith in
     zero-none B sumPlace ∙ ap (λ (i : ℕ). allZero (drop i (take sumPlace B))) (sym e) ∙ l .inv .1
 
 pub all-zero-spec : {M : Type 1} → statement M
@@ -58,7 +58,7 @@ all-zero-spec =
     loop-holds
     shared-slice-read-if1
     returns
-    add-i
+    add-at
     loop-less
     loop-again
     returns-2)

@@ -1,4 +1,4 @@
--- `sheets::place_sum` meets its contract: the sum so far is that of the places below i. Assumes nothing.
+-- `sheets::place_sum` meets its contract: the sum so far is that of the places passed. Assumes nothing.
 use mathlib.Core.Path.{_≡_, refl, sym, ap, _∙_}
 use Prim.Native.Nat.{ℕ, _+_, _-_, _*_, _≤_}
 use native.Mathlib.Omega.{arith}
@@ -13,10 +13,10 @@ use Rattle.sheets.proofs.place_sum.Reads as reads
 use Rattle.sheets.proofs.place_sum.Lts as lts
 
 abbrev Inv-loop : tie.InvT-loop
-Inv-loop block sum₀ i₀ sum i = (i ≤ sumPlace) × (sum ≡ placeSum 0 (take i block)) × (sum ≤ 128520 * i)
+Inv-loop block sum₀ place₀ sum place = (place ≤ sumPlace) × (sum ≡ placeSum 0 (take place block)) × (sum ≤ 128520 * place)
 
 abbrev μ-loop : tie.MeasureT-loop
-μ-loop block sum₀ i₀ sum i = sumPlace - i
+μ-loop block sum₀ place₀ sum place = sumPlace - place
 
 loop-holds : tie.Need-loop-holds Inv-loop μ-loop
 unfolding placeSum
@@ -29,26 +29,26 @@ shared-slice-read-sum : tie.Need-shared-slice-read-sum Inv-loop μ-loop
 shared-slice-read-sum c = search needs
 
 cast-sum : tie.Need-cast-sum Inv-loop μ-loop
-cast-sum c = omega (arith, c .shared-slice-known .given (c .before .before .loop .i))
+cast-sum c = omega (arith, c .shared-slice-known .given (c .before .before .loop .place))
 
 mul-sum : tie.Need-mul-sum Inv-loop μ-loop
 mul-sum c =
     let l = c .before .before .loop in
     let B = c .before .before .before .args .block .now in
-    let b = c .shared-slice-known .given (c .before .before .loop .i) in
-    let p : (l .i + 1) * getD B (l .i) 0 ≤ 255 * 504 = place-part (l .i) 504 (getD B (l .i) 0) (omega arith) (omega arith) in
+    let b = c .shared-slice-known .given (c .before .before .loop .place) in
+    let p : (l .place + 1) * getD B (l .place) 0 ≤ 255 * 504 = place-part (l .place) 504 (getD B (l .place) 0) (omega arith) (omega arith) in
     omega arith
 
 add-sum-2 : tie.Need-add-sum-2 Inv-loop μ-loop
 add-sum-2 c =
     let l = c .before .before .loop in
     let B = c .before .before .before .args .block .now in
-    let b = c .shared-slice-known .given (c .before .before .loop .i) in
-    let p : (l .i + 1) * getD B (l .i) 0 ≤ 255 * 504 = place-part (l .i) 504 (getD B (l .i) 0) (omega arith) (omega arith) in
+    let b = c .shared-slice-known .given (c .before .before .loop .place) in
+    let p : (l .place + 1) * getD B (l .place) 0 ≤ 255 * 504 = place-part (l .place) 504 (getD B (l .place) 0) (omega arith) (omega arith) in
     omega arith
 
-add-i : tie.Need-add-i Inv-loop μ-loop
-add-i c = search needs
+add-place : tie.Need-add-place Inv-loop μ-loop
+add-place c = search needs
 
 loop-less : tie.Need-loop-less Inv-loop μ-loop
 loop-less c = search needs
@@ -57,9 +57,9 @@ loop-again : tie.Need-loop-again Inv-loop μ-loop
 loop-again c =
     let l = c .before .before .loop in
     let B = c .before .before .before .args .block .now in
-    let b = c .shared-slice-known .given (c .before .before .loop .i) in
-    let p : (l .i + 1) * getD B (l .i) 0 ≤ 255 * 504 = place-part (l .i) 504 (getD B (l .i) 0) (omega arith) (omega arith) in
-    (omega arith, omega (arith, place-next B (l .i) (omega arith)), omega arith)
+    let b = c .shared-slice-known .given (c .before .before .loop .place) in
+    let p : (l .place + 1) * getD B (l .place) 0 ≤ 255 * 504 = place-part (l .place) 504 (getD B (l .place) 0) (omega arith) (omega arith) in
+    (omega arith, omega (arith, place-next B (l .place) (omega arith)), omega arith)
 
 cast-result : tie.Need-cast-result Inv-loop μ-loop
 cast-result c = search needs
@@ -68,7 +68,7 @@ returns : tie.Need-returns Inv-loop μ-loop
 returns c =
     let l = c .before .loop in
     let B = c .before .before .args .block .now in
-    let e : l .i ≡ sumPlace = omega arith in
+    let e : l .place ≡ sumPlace = omega arith in
     l .inv .1 ∙ ap (λ (i : ℕ). placeSum 0 (take i B)) e
 
 pub place-sum-spec : {M : Type 1} → statement M
@@ -83,7 +83,7 @@ place-sum-spec =
     cast-sum
     mul-sum
     add-sum-2
-    add-i
+    add-place
     loop-less
     loop-again
     cast-result
