@@ -1,5 +1,10 @@
-pub mod Bytes
 pub mod Layout
-pub mod Block
 pub mod Reading
 pub mod Writing
+pub mod Cases
+pub mod ReadLaws
+pub mod Loading
+pub mod WriteLaws
+pub mod ReadThenWrite
+pub mod WriteThenRead
+pub mod RoundTrips

@@ -3,9 +3,10 @@
 --     BadSize L bs          20
 --     blockAt b bs          the bytes of block b
 --     nOf bs                the book's n: what block 0 carries
---     field k L f i bs      number f (period 0, length 1, start 2) of record i
---     column L f n bs       that number of the first n records
+--     field L bs f i        number f (period 0, length 1, start 2) of record i
+--     column L bs f i k     that number of the k records from record i on
 --     readLines L bs ..     the lines of reading, in order
+--     judgedBlocks L bs     21, 22 or 23 of the first block that has one; else number 0 and n
 --     Columns               an answer, and the three lent columns afterwards
 --     Reads L bs Ts ps ss o     the promise of `read`
 --     readOf L bs Ts ps ss      the same, computed
@@ -22,9 +23,9 @@ use Rattle.lists.specs.Refusals.{Line, line, whole, First}
 use Rattle.lists.specs.Answering.{Found, found, tested, firstOf}
 use Rattle.words.specs.declared.Answer.{Answer}
 use Rattle.words.specs.Answers.{refused}
-use Rattle.book.specs.Bytes.{word}
-use Rattle.book.specs.Layout.{Layout, blockBytes, headBytes}
-use Rattle.book.specs.Block.{WrongSum, WrongField, UsedUnused, wrongSum, wrongField, usedUnused}
+use Rattle.sheets.specs.Bytes.{word}
+use Rattle.sheets.specs.Layout.{Layout, blockBytes, headBytes}
+use Rattle.judging.specs.Block.{WrongSum, WrongField, UsedUnused, wrongSum, wrongField, usedUnused}
 
 abbrev pub BadSize : Layout → List ℕ → Type 0
 BadSize L bs = (length bs ≡ 0) ⊎ ((length bs % blockBytes ≢ 0) ⊎ (L .mostBlocks * blockBytes < length bs))
@@ -65,6 +66,9 @@ module _ (L : Layout) (bs : List ℕ) where
       ∷ blockTest 22 b (wrongField L (nOf bs) (blocksIn bs) b (blockAt b bs))
       ∷ blockTest 23 b (usedUnused L (nOf bs) b (blockAt b bs))
       ∷ blockFindings (suc b) k
+
+  unfoldable pub judgedBlocks : Answer
+  judgedBlocks = firstOf (blockFindings 0 (blocksIn bs)) refused (refused 0 (nOf bs))
 
   -- the four bytes of number f of record i
   unfoldable pub field : ℕ → ℕ → ℕ

@@ -1,4 +1,6 @@
 -- NUMBERS AS BYTES. Document 01, "The book": "numbers least byte first".
+--     byteValues            256: a byte is a number below it
+--     AreBytes bs, AreWords xs   every number is below 256; below 2^32
 --     bytes k x             x in k bytes, least first
 --     value bs              the number that bytes make, least first
 --     word k at bs          the number in the k bytes at a place
@@ -9,10 +11,19 @@
 use mathlib.Core.Bool.{Bool, true}
 use mathlib.Core.Path.{_≡_}
 use mathlib.Core.List.{List, [], _∷_}
-use Prim.Native.Nat.{ℕ, zero, suc, _+_, _*_, _/_, _%_}
+use Prim.Native.Nat.{ℕ, zero, suc, _+_, _*_, _/_, _%_, _<_}
 use lib.Dec.{eqb}
-use lib.ListN.{take, drop}
+use lib.ListN.{getD, take, drop}
 use Rattle.lists.specs.Pick.{both}
+
+abbrev pub byteValues : ℕ
+byteValues = 256
+
+abbrev pub AreBytes : List ℕ → Type 0
+AreBytes bs = (i : ℕ) → getD bs i 0 < byteValues
+
+abbrev pub AreWords : List ℕ → Type 0
+AreWords xs = (i : ℕ) → getD xs i 0 < 4294967296
 
 unfoldable pub bytes : ℕ → ℕ → List ℕ
 bytes zero x = []

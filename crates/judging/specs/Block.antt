@@ -6,18 +6,19 @@
 --     WrongField L n k b B  22
 --     UsedUnused L n b B    23
 --     wrongSum, wrongField, usedUnused   the same as tests
+--     blockVerdict L n k b B    the first of 21, 22 and 23 that applies, and 0 where none does
 -- Edges: n = 257 to 287 fits seven blocks and is 22.
 -- Assumes nothing.
 use mathlib.Core.Path.{_≡_}
 use mathlib.Core.Logic.{_⊎_, _≢_}
 use mathlib.Core.Bool.{Bool, not}
 use mathlib.Core.List.{List}
-use Prim.Native.Nat.{ℕ, _+_, _-_, _*_, _<_}
+use Prim.Native.Nat.{ℕ, _+_, _*_, _<_}
 use lib.Dec.{ltb, eqb}
 use lib.ListN.{take, drop}
-use Rattle.lists.specs.Pick.{either}
-use Rattle.book.specs.Bytes.{word, byteSum, placeSum, AllZero, allZero}
-use Rattle.book.specs.Layout.{Layout, headBytes, sumPlace, sumPlace2, mostN, blocksOf, recordsOf}
+use Rattle.lists.specs.Pick.{pick, either}
+use Rattle.sheets.specs.Bytes.{word, byteSum, placeSum, AllZero, allZero}
+use Rattle.sheets.specs.Layout.{Layout, headBytes, sumPlace, sumPlace2, mostN, blocksOf, recordsOf}
 
 abbrev pub WrongSum : List ℕ → Type 0
 WrongSum B = (word 4 sumPlace B ≢ byteSum (take sumPlace B)) ⊎ (word 4 sumPlace2 B ≢ placeSum 0 (take sumPlace B))
@@ -48,10 +49,13 @@ wrongField L n k b B =
 
 -- the bytes behind the used records, up to the sums
 unfoldable pub unused : Layout → ℕ → ℕ → List ℕ → List ℕ
-unused L n b B = take (sumPlace - (headBytes + recordsOf L n b * L .recordBytes)) (drop (headBytes + recordsOf L n b * L .recordBytes) B)
+unused L n b B = drop (headBytes + recordsOf L n b * L .recordBytes) (take sumPlace B)
 
 abbrev pub UsedUnused : Layout → ℕ → ℕ → List ℕ → Type 0
 UsedUnused L n b B = AllZero (unused L n b B) → ⊥
 
 unfoldable pub usedUnused : Layout → ℕ → ℕ → List ℕ → Bool
 usedUnused L n b B = not (allZero (unused L n b B))
+
+unfoldable pub blockVerdict : Layout → ℕ → ℕ → ℕ → List ℕ → ℕ
+blockVerdict L n k b B = pick (wrongSum B) 21 (pick (wrongField L n k b B) 22 (pick (usedUnused L n b B) 23 0))

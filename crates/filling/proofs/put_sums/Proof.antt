@@ -1,0 +1,43 @@
+-- `filling::put_sums` meets its contract: both sums are of the bytes as they stood. Assumes nothing.
+use mathlib.Core.Path.{_≡_, refl, sym, ap, _∙_}
+use native.Mathlib.Omega.{arith}
+use Rattle.sheets.specs.Bytes.{bytes}
+use Rattle.filling.specs.Filling.{sumsOf}
+use borrow.Author.Needs.{needs}
+use Rattle.filling.proofs.put_sums.Statement.{statement}
+use Rattle.filling.proofs.put_sums.Tie as tie
+use Rattle.filling.proofs.put_sums.Reads as reads
+use Rattle.filling.proofs.put_sums.Lts as lts
+use Rattle.filling.proofs.put4.Reads as put4-reads
+use Rattle.sheets.proofs.byte_sum.Reads as byte-sum-reads
+use Rattle.sheets.proofs.place_sum.Reads as place-sum-reads
+
+byte-sum-requires : tie.Need-byte-sum-requires
+byte-sum-requires c κs = search needs
+
+place-sum-requires : tie.Need-place-sum-requires
+place-sum-requires c κs = search needs
+
+put4-requires : tie.Need-put4-requires
+put4-requires c κs = search needs
+
+put4-requires-2 : tie.Need-put4-requires-2
+put4-requires-2 c κs = search needs
+
+same-length : tie.Need-same-length
+same-length c = search needs
+
+returns : tie.Need-returns
+unfolding bytes sumsOf
+returns c = rw (c .before .before .put42 .ensures, c .before .before .before .before .before .before .put4 .ensures, c .before .before .before .before .before .before .before .before .place-sum .ensures, c .before .before .before .before .before .before .before .before .before .before .byte-sum .ensures)
+
+pub put-sums-spec : {M : Type 1} → statement M
+put-sums-spec =
+    tie.close
+    (tie.spec
+    byte-sum-requires
+    place-sum-requires
+    put4-requires
+    put4-requires-2
+    same-length
+    returns)
