@@ -11,21 +11,36 @@ pub struct Answer {
 
 impl Answer {
     /// Done, or clean.
-    pub const DONE: Answer = Answer { number: 0, index: 0, second: 0, tick: 0 };
+    pub const DONE: Answer = Answer {
+        number: 0,
+        index: 0,
+        second: 0,
+        tick: 0,
+    };
 
     /// Done, with a value as the index.
     pub fn done_with(index: u32) -> Answer {
-        Answer { index, ..Answer::DONE }
+        Answer {
+            index,
+            ..Answer::DONE
+        }
     }
 
     /// A number that names no index.
     pub fn plain(number: u32) -> Answer {
-        Answer { number, ..Answer::DONE }
+        Answer {
+            number,
+            ..Answer::DONE
+        }
     }
 
     /// A number that names a probe or a block.
     pub fn at(number: u32, place: usize) -> Answer {
-        Answer { number, index: place as u32, ..Answer::DONE }
+        Answer {
+            number,
+            index: place as u32,
+            ..Answer::DONE
+        }
     }
 
     pub fn is_done(self) -> bool {

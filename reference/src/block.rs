@@ -36,7 +36,9 @@ pub fn sum(block: &[u8]) -> u32 {
 
 /// The sum of (place + 1) times byte over bytes 0 to 503.
 pub fn weighted_sum(block: &[u8]) -> u32 {
-    (0..SUM_AT).map(|place| (place as u32 + 1) * u32::from(block[place])).sum()
+    (0..SUM_AT)
+        .map(|place| (place as u32 + 1) * u32::from(block[place]))
+        .sum()
 }
 
 /// Writes both sums of a block.

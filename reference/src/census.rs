@@ -63,7 +63,11 @@ impl Census {
 
     /// The names with fewer than `least` inputs.
     pub fn lacking(&self, names: &[String], least: u64) -> Vec<String> {
-        names.iter().filter(|name| self.count(name) < least).cloned().collect()
+        names
+            .iter()
+            .filter(|name| self.count(name) < least)
+            .cloned()
+            .collect()
     }
 }
 

@@ -9,7 +9,12 @@ use crate::table::judge_list;
 use crate::ticks::holders_of_ticks;
 
 fn met(i: usize, j: usize, tick: u64) -> Answer {
-    Answer { number: 10, index: i as u32, second: j as u32, tick }
+    Answer {
+        number: 10,
+        index: i as u32,
+        second: j as u32,
+        tick,
+    }
 }
 
 /// The checker by ticks. From the latest start on the wire repeats by M, so 2M ticks show all.
@@ -20,7 +25,10 @@ pub fn check_by_ticks(periods: &[u32], lengths: &[u32], starts: &[u32]) -> Answe
     }
     let ticks = 2 * longest_period(periods) as usize;
     let mut first_ticks = BTreeMap::new();
-    for (tick, holders) in holders_of_ticks(periods, lengths, starts, ticks).iter().enumerate() {
+    for (tick, holders) in holders_of_ticks(periods, lengths, starts, ticks)
+        .iter()
+        .enumerate()
+    {
         for (k, i) in holders.iter().enumerate() {
             for j in &holders[k + 1..] {
                 first_ticks.entry((*i, *j)).or_insert(tick as u64);

@@ -15,14 +15,18 @@ pub type Made = (String, Vec<u8>);
 pub fn made_files(folder: &Path) -> Result<Vec<Made>, String> {
     let text = std::fs::read(folder.join("pasteuriser.txt")).map_err(|error| error.to_string())?;
     let mut line = line_of_text(&text).map_err(|error| error.to_string())?;
-    let book = line.to_book().map_err(|number| format!("no book: number {number}"))?;
+    let book = line
+        .to_book()
+        .map_err(|number| format!("no book: number {number}"))?;
     let judged = judge_table(&line.periods, &line.lengths);
     if !judged.is_done() {
         return Err(format!("the table is refused: {judged:?}"));
     }
     let plan = plan_page(&book);
     line.starts = first_fit(&line.periods, &line.lengths).starts;
-    let planned = line.to_book().map_err(|number| format!("no book: number {number}"))?;
+    let planned = line
+        .to_book()
+        .map_err(|number| format!("no book: number {number}"))?;
     let check = check_page(&planned);
     Ok(vec![
         ("pasteuriser.book".to_string(), book),

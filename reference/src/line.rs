@@ -15,11 +15,19 @@ impl Line {
     /// A table with every start 0.
     pub fn at_zero(periods: Vec<u32>, lengths: Vec<u32>) -> Line {
         let starts = vec![0; periods.len()];
-        Line { periods, lengths, starts }
+        Line {
+            periods,
+            lengths,
+            starts,
+        }
     }
 
     pub fn new(periods: &[u32], lengths: &[u32], starts: &[u32]) -> Line {
-        Line { periods: periods.to_vec(), lengths: lengths.to_vec(), starts: starts.to_vec() }
+        Line {
+            periods: periods.to_vec(),
+            lengths: lengths.to_vec(),
+            starts: starts.to_vec(),
+        }
     }
 
     pub fn push(&mut self, period: u32, length: u32, start: u32) {
@@ -47,7 +55,12 @@ impl Line {
     /// The line of a book, or the refusal.
     pub fn of_book(bytes: &[u8]) -> Result<Line, crate::answer::Answer> {
         let mut line = Line::at_zero(vec![0; MOST_PROBES], vec![0; MOST_PROBES]);
-        let answer = read_book(bytes, &mut line.periods, &mut line.lengths, &mut line.starts);
+        let answer = read_book(
+            bytes,
+            &mut line.periods,
+            &mut line.lengths,
+            &mut line.starts,
+        );
         if !answer.is_done() {
             return Err(answer);
         }

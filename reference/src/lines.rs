@@ -234,7 +234,11 @@ pub fn line_of(random: &mut Random, class: Class) -> Line {
         }
         Class::WideRatio => {
             let ratio = random.choose(&[4_096, 4_095, 4_093, 2_187, 1_000]);
-            let ratio = if random.once_in(3) { random.between(2, MOST_ROWS) } else { ratio };
+            let ratio = if random.once_in(3) {
+                random.between(2, MOST_ROWS)
+            } else {
+                ratio
+            };
             let w = least(random, &[ratio], LONGEST_PERIOD);
             let n = some_probes(random, 2);
             table(random, &chain(w, &[ratio]), n)

@@ -5,8 +5,15 @@ use crate::line::Line;
 use crate::random::Random;
 
 /// Ticks at the ends of what is permitted.
-pub const EDGES: [u64; 7] =
-    [0, 1, LATEST_TICK - 1, LATEST_TICK, LATEST_TICK + 1, u64::MAX - 1, u64::MAX];
+pub const EDGES: [u64; 7] = [
+    0,
+    1,
+    LATEST_TICK - 1,
+    LATEST_TICK,
+    LATEST_TICK + 1,
+    u64::MAX - 1,
+    u64::MAX,
+];
 
 /// The edges, ticks around starts and ends of reads near and far, and a few of any size.
 pub fn moments(random: &mut Random, line: &Line) -> Vec<u64> {

@@ -19,8 +19,9 @@ pub fn moved_to_first(periods: &[u32], lengths: &[u32], starts: &[u32]) -> Vec<u
 /// Whether all x + p <= w and no two rectangles overlap, for starts as they stand.
 pub fn rectangles_fit(periods: &[u32], lengths: &[u32], starts: &[u32]) -> bool {
     let w = least_period(periods);
-    let corners: Vec<(u32, u32)> =
-        (0..periods.len()).map(|i| corner_of_start(periods, i, starts[i])).collect();
+    let corners: Vec<(u32, u32)> = (0..periods.len())
+        .map(|i| corner_of_start(periods, i, starts[i]))
+        .collect();
     for i in 0..periods.len() {
         let (x, y) = corners[i];
         if x + lengths[i] > w {

@@ -23,7 +23,12 @@ pub fn plan_page(bytes: &[u8]) -> String {
         return refusal_line(judged);
     }
     let planned = first_fit(&line.periods, &line.lengths);
-    let mut page = format!("{} {} {}\n", planned.answer.number, line.n(), rows(&line.periods));
+    let mut page = format!(
+        "{} {} {}\n",
+        planned.answer.number,
+        line.n(),
+        rows(&line.periods)
+    );
     for i in 0..line.n() {
         let start = match planned.starts[i] {
             MARK => "-".to_string(),
@@ -45,5 +50,8 @@ pub fn check_answer(bytes: &[u8]) -> Answer {
 /// The page of `check`: number, both indexes and tick.
 pub fn check_page(bytes: &[u8]) -> String {
     let answer = check_answer(bytes);
-    format!("{} {} {} {}\n", answer.number, answer.index, answer.second, answer.tick)
+    format!(
+        "{} {} {} {}\n",
+        answer.number, answer.index, answer.second, answer.tick
+    )
 }

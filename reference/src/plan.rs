@@ -24,7 +24,11 @@ pub fn first_fit(periods: &[u32], lengths: &[u32]) -> Planned {
         let sub_bins = periods[probe] / w;
         let p = lengths[probe];
         let Some(j) = (0..sub_bins).find(|j| fills[(j * h) as usize] + p <= w) else {
-            return Planned { answer: Answer::at(8, probe), starts, fills };
+            return Planned {
+                answer: Answer::at(8, probe),
+                starts,
+                fills,
+            };
         };
         let y = j * h;
         let x = fills[y as usize];
@@ -33,7 +37,11 @@ pub fn first_fit(periods: &[u32], lengths: &[u32]) -> Planned {
             fills[row as usize] += p;
         }
     }
-    Planned { answer: Answer::DONE, starts, fills }
+    Planned {
+        answer: Answer::DONE,
+        starts,
+        fills,
+    }
 }
 
 /// The planner. Numbers 1 to 6, 7, 8; n starts and H fills are written on 0 and on 8.

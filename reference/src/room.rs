@@ -4,7 +4,11 @@ use crate::shape::{heights, longest_period, rows};
 
 /// Busy ticks in one longest period: the sum of p * h.
 pub fn busy_ticks(periods: &[u32], lengths: &[u32]) -> u64 {
-    heights(periods).iter().zip(lengths).map(|(h, p)| u64::from(*h) * u64::from(*p)).sum()
+    heights(periods)
+        .iter()
+        .zip(lengths)
+        .map(|(h, p)| u64::from(*h) * u64::from(*p))
+        .sum()
 }
 
 /// The longest read; 0 for the empty table.

@@ -143,8 +143,18 @@ fn meeting(random: &mut Random, line: &mut Line) {
         line.lengths.swap(place, other);
         line.starts.swap(place, other);
     }
-    let (i, j) = if line.periods[0] <= line.periods[1] { (0, 1) } else { (1, 0) };
-    let case = random.choose(&FirstTick::ALL);
+    let (i, j) = if line.periods[0] <= line.periods[1] {
+        (0, 1)
+    } else {
+        (1, 0)
+    };
+    // The second start is the rarest case by chance, so it is asked for more often.
+    let second = random.once_in(2);
+    let case = if second {
+        FirstTick::LongerSecondStart
+    } else {
+        random.choose(&FirstTick::ALL)
+    };
     let w = least_period(&line.periods);
     if case != FirstTick::LongerFirstStart && random.once_in(2) {
         // Room for reads that lie across each other.

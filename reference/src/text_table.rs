@@ -24,7 +24,8 @@ fn number(word: &str) -> Result<u32, String> {
     if !word.bytes().all(|byte| byte.is_ascii_digit()) {
         return Err(format!("`{word}` is not a whole number"));
     }
-    word.parse().map_err(|_| format!("{word} is above 4294967295"))
+    word.parse()
+        .map_err(|_| format!("{word} is above 4294967295"))
 }
 
 /// The numbers of one line of text; none for a blank line or a comment.
@@ -38,7 +39,10 @@ fn numbers(text: &[u8]) -> Result<Vec<u32>, String> {
 pub fn line_of_text(text: &[u8]) -> Result<Line, TextError> {
     let mut line = Line::default();
     for (place, text) in text.split(|byte| *byte == b'\n').enumerate() {
-        let wrong = |what| TextError { line: place + 1, what };
+        let wrong = |what| TextError {
+            line: place + 1,
+            what,
+        };
         match numbers(text).map_err(wrong)?[..] {
             [] => continue,
             [period, length] => line.push(period, length, 0),
@@ -56,7 +60,10 @@ pub fn line_of_text(text: &[u8]) -> Result<Line, TextError> {
 pub fn text_of_line(line: &Line) -> String {
     let mut text = String::new();
     for i in 0..line.n() {
-        text += &format!("{} {} {}\n", line.periods[i], line.lengths[i], line.starts[i]);
+        text += &format!(
+            "{} {} {}\n",
+            line.periods[i], line.lengths[i], line.starts[i]
+        );
     }
     text
 }

@@ -51,10 +51,18 @@ pub fn next_start(periods: &[u32], lengths: &[u32], starts: &[u32], tick: u64) -
         return refusal;
     }
     let next = (0..periods.len())
-        .map(|i| (start_from(u64::from(periods[i]), u64::from(starts[i]), tick), i))
+        .map(|i| {
+            (
+                start_from(u64::from(periods[i]), u64::from(starts[i]), tick),
+                i,
+            )
+        })
         .min();
     match next {
-        Some((tick, i)) => Answer { tick, ..Answer::at(0, i) },
+        Some((tick, i)) => Answer {
+            tick,
+            ..Answer::at(0, i)
+        },
         None => Answer::done_with(NO_PROBE),
     }
 }
@@ -68,7 +76,10 @@ pub fn next_start_by_walk(periods: &[u32], lengths: &[u32], starts: &[u32], tick
     for t in tick..tick + u64::from(longest_period(periods)) {
         for i in 0..periods.len() {
             if starts_a_read(periods[i], starts[i], t) {
-                return Answer { tick: t, ..Answer::at(0, i) };
+                return Answer {
+                    tick: t,
+                    ..Answer::at(0, i)
+                };
             }
         }
     }
@@ -84,7 +95,10 @@ pub fn next_start_by_paint(periods: &[u32], lengths: &[u32], starts: &[u32], tic
     let starters = starters_of_ticks(periods, starts, ticks);
     for (t, starting) in starters.iter().enumerate().skip(tick as usize) {
         if let Some(i) = starting.first() {
-            return Answer { tick: t as u64, ..Answer::at(0, *i) };
+            return Answer {
+                tick: t as u64,
+                ..Answer::at(0, *i)
+            };
         }
     }
     Answer::done_with(NO_PROBE)

@@ -17,7 +17,12 @@ fn check(periods: &[u32], lengths: &[u32], starts: &[u32]) -> Answer {
 }
 
 fn met(index: u32, second: u32, tick: u64) -> Answer {
-    Answer { number: 10, index, second, tick }
+    Answer {
+        number: 10,
+        index,
+        second,
+        tick,
+    }
 }
 
 #[test]
@@ -33,8 +38,13 @@ fn five_probes_are_planned_and_printed() {
     assert_eq!(planned.answer, Answer::DONE);
     assert_eq!(planned.starts, [0, 13, 3, 8, 17]);
     assert_eq!(planned.fills, [10, 8, 8, 10, 7, 7]);
-    let book = Line::new(&periods, &lengths, &[9, MARK, 0, 7, 7]).to_book().unwrap();
-    assert_eq!(plan_page(&book), "0 5 6\n0 10 3 0\n1 20 4 13\n2 20 5 3\n3 60 2 8\n4 60 3 17\n");
+    let book = Line::new(&periods, &lengths, &[9, MARK, 0, 7, 7])
+        .to_book()
+        .unwrap();
+    assert_eq!(
+        plan_page(&book),
+        "0 5 6\n0 10 3 0\n1 20 4 13\n2 20 5 3\n3 60 2 8\n4 60 3 17\n"
+    );
 }
 
 #[test]
@@ -43,9 +53,17 @@ fn a_sixth_probe_starts_at_37_and_not_at_47() {
     let planned = first_fit(&periods, &lengths);
     assert_eq!(planned.answer, Answer::DONE);
     assert_eq!(planned.starts, [0, 13, 3, 8, 17, 37]);
-    assert_eq!(check(&periods, &lengths, &[0, 13, 3, 8, 17, 37]), Answer::DONE);
-    assert_eq!(check(&periods, &lengths, &[0, 13, 3, 8, 17, 47]), met(2, 5, 47));
-    let book = Line::new(&periods, &lengths, &[0, 13, 3, 8, 17, 47]).to_book().unwrap();
+    assert_eq!(
+        check(&periods, &lengths, &[0, 13, 3, 8, 17, 37]),
+        Answer::DONE
+    );
+    assert_eq!(
+        check(&periods, &lengths, &[0, 13, 3, 8, 17, 47]),
+        met(2, 5, 47)
+    );
+    let book = Line::new(&periods, &lengths, &[0, 13, 3, 8, 17, 47])
+        .to_book()
+        .unwrap();
     assert_eq!(check_page(&book), "10 2 5 47\n");
 }
 
@@ -69,7 +87,10 @@ fn first_fit_stops_where_another_list_is_clean() {
     assert_eq!(planned.answer, Answer::at(8, 5));
     assert_eq!(planned.starts, [0, 2, 4, 10, 26, MARK, MARK]);
     assert_eq!(planned.fills, [6, 6, 6, 6]);
-    assert_eq!(check(&periods, &lengths, &[0, 2, 10, 4, 12, 20, 28]), Answer::DONE);
+    assert_eq!(
+        check(&periods, &lengths, &[0, 2, 10, 4, 12, 20, 28]),
+        Answer::DONE
+    );
     let handed_back = judge_list(&periods, &lengths, &planned.starts);
     assert_eq!(handed_back, Answer::at(9, 5));
 }
@@ -82,7 +103,10 @@ fn a_second_read_meets_at_21() {
 #[test]
 fn one_probe_may_fill_its_period_and_no_more() {
     let planned = first_fit(&[10], &[10]);
-    assert_eq!((planned.answer, &planned.starts[..]), (Answer::DONE, &[0][..]));
+    assert_eq!(
+        (planned.answer, &planned.starts[..]),
+        (Answer::DONE, &[0][..])
+    );
     assert_eq!(judge_table(&[10], &[11]), Answer::at(4, 0));
 }
 
@@ -97,14 +121,26 @@ fn periods_divide_and_rows_end_at_4096() {
 fn the_empty_book_has_sums_1_and_3() {
     let book = Line::default().to_book().unwrap();
     assert_eq!(book.len(), 512);
-    assert_eq!((get32(&book, SUM_AT), get32(&book, WEIGHTED_SUM_AT)), (1, 3));
+    assert_eq!(
+        (get32(&book, SUM_AT), get32(&book, WEIGHTED_SUM_AT)),
+        (1, 3)
+    );
     assert_eq!(plan_page(&book), "0 0 0\n");
     assert_eq!(check_page(&book), "0 0 0 0\n");
 }
 
 #[test]
 fn blocks_of_41_42_and_256_probes() {
-    for (n, blocks) in [(0, 1), (1, 1), (41, 1), (42, 2), (82, 2), (83, 3), (246, 6), (256, 7)] {
+    for (n, blocks) in [
+        (0, 1),
+        (1, 1),
+        (41, 1),
+        (42, 2),
+        (82, 2),
+        (83, 3),
+        (246, 6),
+        (256, 7),
+    ] {
         let line = Line::at_zero(vec![1; n], vec![1; n]);
         assert_eq!(line.to_book().unwrap().len(), blocks * 512, "{n} probes");
     }

@@ -131,8 +131,14 @@ fn blocks_are_judged_one_after_the_other() {
     // 24 comes last of all
     let mut few = [GUARD; 3];
     let (mut l, mut s) = ([0; 50], [0; 50]);
-    assert_eq!(read_book(&book, &mut few, &mut l, &mut s), Answer::at(23, 1));
-    assert_eq!(read_book(&small_book(50), &mut few, &mut l, &mut s), Answer::plain(24));
+    assert_eq!(
+        read_book(&book, &mut few, &mut l, &mut s),
+        Answer::at(23, 1)
+    );
+    assert_eq!(
+        read_book(&small_book(50), &mut few, &mut l, &mut s),
+        Answer::plain(24)
+    );
 }
 
 #[test]

@@ -13,7 +13,11 @@ fn any_columns(random: &mut Random, n: usize) -> Line {
     let mut line = Line::default();
     for _ in 0..n {
         let top = random.choose(&[1, 255, 65_535, 1 << 20, MARK]);
-        line.push(random.between(0, top), random.between(0, top), random.between(0, top));
+        line.push(
+            random.between(0, top),
+            random.between(0, top),
+            random.between(0, top),
+        );
     }
     line
 }
@@ -22,7 +26,10 @@ fn any_columns(random: &mut Random, n: usize) -> Line {
 fn blocks_and_records_of_every_n() {
     for n in 0..=256 {
         let blocks = blocks_for(n);
-        assert_eq!((0..blocks).map(|block| records_in(n, block)).sum::<usize>(), n);
+        assert_eq!(
+            (0..blocks).map(|block| records_in(n, block)).sum::<usize>(),
+            n
+        );
         assert!((0..blocks - 1).all(|block| records_in(n, block) == RECORDS));
         assert!(blocks == 1 || records_in(n, blocks - 1) > 0);
     }
@@ -40,8 +47,14 @@ fn every_n_is_written_and_read_back() {
         assert!(bytes[size..].iter().all(|byte| *byte == 0xA5));
         let book = &bytes[..size];
         let (mut p, mut l, mut s) = (vec![GUARD; n], vec![GUARD; n + 1], vec![GUARD; 300]);
-        assert_eq!(read_book(book, &mut p, &mut l, &mut s), Answer::done_with(n as u32));
-        assert_eq!((&p[..n], &l[..n], &s[..n]), (&line.periods[..], &line.lengths[..], &line.starts[..]));
+        assert_eq!(
+            read_book(book, &mut p, &mut l, &mut s),
+            Answer::done_with(n as u32)
+        );
+        assert_eq!(
+            (&p[..n], &l[..n], &s[..n]),
+            (&line.periods[..], &line.lengths[..], &line.starts[..])
+        );
         assert!(l[n..].iter().chain(&s[n..]).all(|entry| *entry == GUARD));
         assert_eq!(Line::of_book(book).unwrap().to_book().unwrap(), book);
     }
@@ -53,12 +66,27 @@ fn writing_is_refused_by_1_2_and_7_and_writes_nothing() {
     assert_eq!(write_book(&[1], &[1], &[], &mut bytes), Answer::plain(1));
     assert_eq!(write_book(&[1], &[], &[1], &mut bytes), Answer::plain(1));
     assert_eq!(write_book(&[], &[1], &[1], &mut bytes), Answer::plain(1));
-    assert_eq!(write_book(&[1; 300], &[1; 300], &[1; 299], &mut []), Answer::plain(1));
-    assert_eq!(write_book(&[1; 257], &[1; 257], &[1; 257], &mut []), Answer::plain(2));
-    assert_eq!(write_book(&[1; 42], &[1; 42], &[1; 42], &mut bytes), Answer::plain(7));
-    assert_eq!(write_book(&[], &[], &[], &mut bytes[..511]), Answer::plain(7));
+    assert_eq!(
+        write_book(&[1; 300], &[1; 300], &[1; 299], &mut []),
+        Answer::plain(1)
+    );
+    assert_eq!(
+        write_book(&[1; 257], &[1; 257], &[1; 257], &mut []),
+        Answer::plain(2)
+    );
+    assert_eq!(
+        write_book(&[1; 42], &[1; 42], &[1; 42], &mut bytes),
+        Answer::plain(7)
+    );
+    assert_eq!(
+        write_book(&[], &[], &[], &mut bytes[..511]),
+        Answer::plain(7)
+    );
     assert_eq!(bytes, [0xA5; 600]);
-    assert_eq!(write_book(&[], &[], &[], &mut bytes[..512]), Answer::done_with(512));
+    assert_eq!(
+        write_book(&[], &[], &[], &mut bytes[..512]),
+        Answer::done_with(512)
+    );
 }
 
 #[test]
@@ -73,7 +101,10 @@ fn reading_is_refused_by_24_where_one_column_is_short() {
         assert!(columns.iter().flatten().all(|entry| *entry == GUARD));
     }
     let empty = Line::default().to_book().unwrap();
-    assert_eq!(read_book(&empty, &mut [], &mut [], &mut []), Answer::done_with(0));
+    assert_eq!(
+        read_book(&empty, &mut [], &mut [], &mut []),
+        Answer::done_with(0)
+    );
 }
 
 #[test]

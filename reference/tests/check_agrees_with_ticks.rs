@@ -38,7 +38,14 @@ fn painting_reads_is_the_definition_of_holding() {
         let painted = holders_of_ticks(&line.periods, &line.lengths, &line.starts, 900);
         for (t, holders) in painted.iter().enumerate() {
             let by_rule: Vec<usize> = (0..line.n())
-                .filter(|i| holds(line.periods[*i], line.lengths[*i], line.starts[*i], t as u64))
+                .filter(|i| {
+                    holds(
+                        line.periods[*i],
+                        line.lengths[*i],
+                        line.starts[*i],
+                        t as u64,
+                    )
+                })
                 .collect();
             assert_eq!(*holders, by_rule);
         }
@@ -50,13 +57,31 @@ fn every_pair_of_small_probes_meets_as_the_condition_says() {
     let mut pairs = 0u32;
     let mut cases = [0u32; 4];
     for w in 1..=5u64 {
-        for (ti, tj) in [(1, 1), (1, 2), (1, 3), (2, 1), (2, 2), (2, 4), (3, 1), (2, 6), (6, 2)] {
+        for (ti, tj) in [
+            (1, 1),
+            (1, 2),
+            (1, 3),
+            (2, 1),
+            (2, 2),
+            (2, 4),
+            (3, 1),
+            (2, 6),
+            (6, 2),
+        ] {
             let (ti, tj) = (w * ti, w * tj);
             for (pi, pj) in (1..=w).flat_map(|p| (1..=w).map(move |q| (p, q))) {
                 for si in 0..ti {
                     for sj in 0..tj {
-                        let a = Probe { period: ti, length: pi, start: si };
-                        let b = Probe { period: tj, length: pj, start: sj };
+                        let a = Probe {
+                            period: ti,
+                            length: pi,
+                            start: si,
+                        };
+                        let b = Probe {
+                            period: tj,
+                            length: pj,
+                            start: sj,
+                        };
                         let first = first_shared_by_ticks(a, b);
                         assert_eq!(meet(a, b), first.is_some(), "{a:?} {b:?}");
                         assert_eq!(first_shared_by_reads(a, b), first, "{a:?} {b:?}");
@@ -71,7 +96,10 @@ fn every_pair_of_small_probes_meets_as_the_condition_says() {
             }
         }
     }
-    println!("pairs walked: {pairs}, first ticks by case {:?}: {cases:?}", FirstTick::ALL);
+    println!(
+        "pairs walked: {pairs}, first ticks by case {:?}: {cases:?}",
+        FirstTick::ALL
+    );
     assert!(cases.iter().all(|count| *count >= 1_000));
 }
 
@@ -106,8 +134,15 @@ fn first_ticks_of_large_pairs_agree_by_reads_and_by_cases() {
         let line = line_of(&mut random, class);
         let line = with_starts(&mut random, &line, Kind::Random);
         let of = |i: u64| Probe::of(&line.periods, &line.lengths, &line.starts, i as usize);
-        let (a, b) = (of(random.below(line.n() as u64)), of(random.below(line.n() as u64)));
-        assert_eq!(first_shared_by_reads(a, b), first_shared_by_cases(a, b), "{a:?} {b:?}");
+        let (a, b) = (
+            of(random.below(line.n() as u64)),
+            of(random.below(line.n() as u64)),
+        );
+        assert_eq!(
+            first_shared_by_reads(a, b),
+            first_shared_by_cases(a, b),
+            "{a:?} {b:?}"
+        );
     }
 }
 
@@ -140,7 +175,9 @@ fn in_a_clean_list_any_window_of_a_period_has_the_reads_length() {
             let from = line.starts[i] as usize + random.below(400) as usize;
             let window = &painted[from..from + line.periods[i] as usize];
             let own = window.iter().filter(|holders| holders.contains(&i)).count();
-            let shared = window.iter().filter(|holders| holders.contains(&i) && holders.len() > 1);
+            let shared = window
+                .iter()
+                .filter(|holders| holders.contains(&i) && holders.len() > 1);
             assert_eq!((own, shared.count()), (line.lengths[i] as usize, 0));
         }
     }

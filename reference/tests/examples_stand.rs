@@ -15,7 +15,11 @@ fn folder() -> std::path::PathBuf {
 #[test]
 fn every_file_is_made_from_the_text_table() {
     for (name, bytes) in made_files(&folder()).unwrap() {
-        assert_eq!(std::fs::read(folder().join(&name)).unwrap(), bytes, "{name}");
+        assert_eq!(
+            std::fs::read(folder().join(&name)).unwrap(),
+            bytes,
+            "{name}"
+        );
     }
 }
 
@@ -26,7 +30,10 @@ fn the_pasteuriser_is_planned_with_room_and_is_clean() {
     assert!(!page.contains('-'));
     let planned = std::fs::read(folder().join("pasteuriser-planned.book")).unwrap();
     let line = Line::of_book(&planned).unwrap();
-    assert_eq!(different_periods(&line.periods), [100, 200, 1_000, 5_000, 10_000, 60_000]);
+    assert_eq!(
+        different_periods(&line.periods),
+        [100, 200, 1_000, 5_000, 10_000, 60_000]
+    );
     assert!(has_room(&line.periods, &line.lengths));
     assert!(check_by_pairs(&line.periods, &line.lengths, &line.starts).is_done());
     let check = std::fs::read(folder().join("pasteuriser-planned.check")).unwrap();

@@ -53,7 +53,10 @@ fn slots_of_one_sub_bin_lie_evenly_in_time() {
             line.periods[i as usize].max(line.periods[j as usize]),
         );
         let w = least_period(&line.periods);
-        let (few, many) = (ratios_up_to(&line.periods, short), ratios_up_to(&line.periods, long));
+        let (few, many) = (
+            ratios_up_to(&line.periods, short),
+            ratios_up_to(&line.periods, long),
+        );
         for _ in 0..20 {
             let v = random.below(u64::from(long / w)) as u32;
             assert_eq!(flip(&many, v) / (long / short), flip(&few, v % (short / w)));
@@ -64,7 +67,7 @@ fn slots_of_one_sub_bin_lie_evenly_in_time() {
 #[test]
 fn starts_to_corners_and_back() {
     let mut random = Random::announced(SEED + 1, "starts to corners and back");
-    for _ in 0..2_000 {
+    for _ in 0..800 {
         let (_, line) = any_line(&mut random);
         let line = with_starts(&mut random, &line, Kind::Random);
         let n = line.n();
@@ -74,8 +77,13 @@ fn starts_to_corners_and_back() {
         assert_eq!(answer, Answer::DONE);
         assert!(xs[n..].iter().chain(&ys[n..]).all(|entry| *entry == GUARD));
         let mut starts = vec![GUARD; n + 2];
-        let answer =
-            starts_from_corners(&line.periods, &line.lengths, &xs[..n], &ys[..n], &mut starts);
+        let answer = starts_from_corners(
+            &line.periods,
+            &line.lengths,
+            &xs[..n],
+            &ys[..n],
+            &mut starts,
+        );
         assert_eq!(answer, Answer::DONE);
         assert_eq!(starts[..n], line.starts);
         assert!(starts[n..].iter().all(|entry| *entry == GUARD));
@@ -85,7 +93,7 @@ fn starts_to_corners_and_back() {
 #[test]
 fn corners_to_starts_and_back() {
     let mut random = Random::announced(SEED + 2, "corners to starts and back");
-    for _ in 0..2_000 {
+    for _ in 0..800 {
         let (_, line) = any_line(&mut random);
         let n = line.n();
         let w = least_period(&line.periods);
@@ -97,8 +105,7 @@ fn corners_to_starts_and_back() {
         let answer = starts_from_corners(&line.periods, &line.lengths, &xs, &ys, &mut starts);
         assert_eq!(answer, Answer::DONE);
         let (mut xs2, mut ys2) = (vec![0; n], vec![0; n]);
-        let answer =
-            corners_from_starts(&line.periods, &line.lengths, &starts, &mut xs2, &mut ys2);
+        let answer = corners_from_starts(&line.periods, &line.lengths, &starts, &mut xs2, &mut ys2);
         assert_eq!(answer, Answer::DONE);
         assert_eq!((xs2, ys2), (xs, ys));
     }

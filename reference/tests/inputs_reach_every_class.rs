@@ -13,14 +13,22 @@ use reference::moments::moments;
 use reference::pair::FirstTick;
 use reference::plan::plan;
 use reference::random::{Random, SEED};
-use reference::shape::{height, least_period};
+use reference::room::has_room;
+use reference::shape::{different_periods, height, least_period, longest_period, rows};
 use reference::starts::any_starts;
 use reference::timetable::{holder, next_start};
 
 /// Lent columns that are sometimes too short.
 fn lent(random: &mut Random, wanted: usize) -> Vec<u32> {
     let short = random.once_in(12) && wanted > 0;
-    vec![7; if short { wanted - 1 } else { wanted + random.below(3) as usize }]
+    vec![
+        7;
+        if short {
+            wanted - 1
+        } else {
+            wanted + random.below(3) as usize
+        }
+    ]
 }
 
 fn ask_planner(random: &mut Random, line: &Line, census: &mut Census) {
@@ -48,7 +56,10 @@ fn ask_corners(random: &mut Random, line: &Line, census: &mut Census) {
             }
         }
         let mut starts = lent(random, n);
-        census.note_number("starts from corners", starts_from_corners(p, l, &xs, &ys, &mut starts));
+        census.note_number(
+            "starts from corners",
+            starts_from_corners(p, l, &xs, &ys, &mut starts),
+        );
     }
 }
 
@@ -74,8 +85,11 @@ fn ask_book(random: &mut Random, line: &Line, census: &mut Census) {
         bytes.truncate(answer.index as usize);
         let damage = random.choose(&Damage::ALL);
         for book in [damaged(random, &bytes, damage), bytes] {
-            let (mut p, mut l, mut s) =
-                (lent(random, 256), lent(random, line.n()), lent(random, line.n()));
+            let (mut p, mut l, mut s) = (
+                lent(random, 256),
+                lent(random, line.n()),
+                lent(random, line.n()),
+            );
             census.note_number("read book", read_book(&book, &mut p, &mut l, &mut s));
         }
     }
@@ -113,12 +127,52 @@ fn at_least_50_of_each() {
     ];
     let mut wanted = Vec::new();
     for (call, numbers) in numbers {
-        wanted.extend(numbers.iter().map(|number| format!("{call}: number {number}")));
+        wanted.extend(
+            numbers
+                .iter()
+                .map(|number| format!("{call}: number {number}")),
+        );
     }
     wanted.extend(FirstTick::ALL.map(Census::case_name));
     wanted.extend(["M of 2^19 or more", "13 different periods", "H = 4,096"].map(String::from));
     assert_eq!(census.lacking(&wanted, 50), Vec::<String>::new());
     assert_eq!(census.count("first tick: no case"), 0);
+}
+
+#[test]
+fn every_class_has_what_it_says() {
+    let mut random = Random::announced(SEED + 71, "classes");
+    for class in Class::ALL {
+        for _ in 0..100 {
+            let line = line_of(&mut random, class);
+            let (n, p) = (line.n(), &line.periods);
+            let (w, m, kinds) = (
+                least_period(p),
+                longest_period(p),
+                different_periods(p).len(),
+            );
+            let stands = match class {
+                Class::Empty => n == 0,
+                Class::One => n == 1,
+                Class::FullBlock => n == 41,
+                Class::TwoBlocks => n == 42,
+                Class::NearlyMost => n == 255,
+                Class::Most => n == 256,
+                Class::FewPeriods => n >= 2 && kinds <= 2,
+                Class::ManyPeriods => kinds >= 5,
+                Class::ThirteenPeriods => kinds == 13,
+                Class::MostRows => rows(p) == 4_096,
+                Class::WideRatio => kinds == 2,
+                Class::LeastPeriodOne => w == 1,
+                Class::FullLength => line.lengths.contains(&w),
+                Class::LongPeriods => m >= 1 << 19,
+                Class::Small => (1..=360).contains(&m) && n <= 10,
+                Class::Roomy => has_room(p, &line.lengths),
+                Class::Tight => n >= 4 && kinds >= 2,
+            };
+            assert!(stands, "{class:?} {line:?}");
+        }
+    }
 }
 
 #[test]

@@ -51,7 +51,7 @@ fn plan_ignores_the_starts_and_check_judges_them() {
 #[test]
 fn pages_say_what_the_calls_answer() {
     let mut random = Random::announced(SEED + 50, "pages");
-    for _ in 0..1_000 {
+    for _ in 0..600 {
         let (_, line) = any_line(&mut random);
         let (_, line) = any_starts(&mut random, &line);
         let book = line.to_book().unwrap();
@@ -60,15 +60,20 @@ fn pages_say_what_the_calls_answer() {
         let page = plan_page(&book);
         let rows: Vec<&str> = page.lines().collect();
         assert_eq!(rows.len(), 1 + line.n());
-        assert_eq!(rows[0].split(' ').next(), Some(planned.number.to_string().as_str()));
+        assert_eq!(
+            rows[0].split(' ').next(),
+            Some(planned.number.to_string().as_str())
+        );
         for i in 0..line.n() {
             let last = rows[1 + i].split(' ').next_back().unwrap();
             assert_eq!(last == "-", starts[i] == MARK);
             assert!(last == "-" || last == starts[i].to_string());
         }
         let answer = check_by_pairs(&line.periods, &line.lengths, &line.starts);
-        let numbers: Vec<u64> =
-            check_page(&book).split_whitespace().map(|word| word.parse().unwrap()).collect();
+        let numbers: Vec<u64> = check_page(&book)
+            .split_whitespace()
+            .map(|word| word.parse().unwrap())
+            .collect();
         let fields = [answer.number, answer.index, answer.second].map(u64::from);
         assert_eq!((&numbers[..3], numbers[3]), (&fields[..], answer.tick));
     }
@@ -85,11 +90,17 @@ fn the_exports_write_20_bytes_and_no_more() {
     }
     assert_eq!(lent, [0xA5; 25]);
     assert_eq!(export_check(&book, &mut lent), 10);
-    assert_eq!(lent[..20], [10, 0, 0, 0, 0, 0, 0, 0, 1, 0, 0, 0, 21, 0, 0, 0, 0, 0, 0, 0]);
+    assert_eq!(
+        lent[..20],
+        [10, 0, 0, 0, 0, 0, 0, 0, 1, 0, 0, 0, 21, 0, 0, 0, 0, 0, 0, 0]
+    );
     assert_eq!(lent[20..], [0xA5; 5]);
     assert_eq!(export_next_start(&book, LATEST_TICK, &mut lent), 0);
     // 2^40 leaves 6 by 10, so probe 0 starts 2 ticks later
-    assert_eq!(lent[..20], [0, 0, 0, 0, 0, 0, 0, 0, 0, 0, 0, 0, 2, 0, 0, 0, 0, 1, 0, 0]);
+    assert_eq!(
+        lent[..20],
+        [0, 0, 0, 0, 0, 0, 0, 0, 0, 0, 0, 0, 2, 0, 0, 0, 0, 1, 0, 0]
+    );
     assert_eq!(export_holder(&book, 0, &mut lent), 0);
     assert_eq!(lent[..8], [0, 0, 0, 0, 255, 255, 255, 255]);
     assert_eq!(lent[8..20], [0; 12]);
@@ -114,7 +125,7 @@ fn the_exports_judge_the_book_then_the_list_then_the_tick() {
 #[test]
 fn the_exports_say_what_the_calls_answer() {
     let mut random = Random::announced(SEED + 51, "exports");
-    for _ in 0..1_000 {
+    for _ in 0..600 {
         let (_, line) = any_line(&mut random);
         let (_, line) = any_starts(&mut random, &line);
         let (p, l, s) = (&line.periods, &line.lengths, &line.starts);
@@ -132,7 +143,10 @@ fn the_exports_say_what_the_calls_answer() {
         if let Err(refusal) = Line::of_book(&bytes) {
             assert_eq!(export_check(&bytes, &mut lent), refusal.number);
             assert_eq!(lent, answer_bytes(refusal));
-            assert_eq!(plan_page(&bytes), format!("{} {}\n", refusal.number, refusal.index));
+            assert_eq!(
+                plan_page(&bytes),
+                format!("{} {}\n", refusal.number, refusal.index)
+            );
         }
     }
 }

@@ -76,7 +76,11 @@ fn first_fit_is_the_same_by_rows_and_by_ticks() {
         let line = line_of(&mut random, Class::Small);
         let planned = first_fit(&line.periods, &line.lengths);
         let (answer, starts) = plan_by_ticks(&line);
-        assert_eq!((planned.answer, &planned.starts), (answer, &starts), "{line:?}");
+        assert_eq!(
+            (planned.answer, &planned.starts),
+            (answer, &starts),
+            "{line:?}"
+        );
         refused += u32::from(answer.number == 8);
     }
     println!("planned by ticks: 4000, of them refused by 8: {refused}");
@@ -87,12 +91,15 @@ fn first_fit_is_the_same_by_rows_and_by_ticks() {
 fn planned_lists_are_clean_and_fill_their_rows() {
     let mut random = Random::announced(SEED + 12, "planned lists");
     let (mut done, mut refused) = (0, 0);
-    for _ in 0..3_000 {
+    for _ in 0..1_500 {
         let (_, line) = any_line(&mut random);
         let (n, h) = (line.n(), rows(&line.periods) as usize);
         let (mut starts, mut fills) = (vec![GUARD; n + 3], vec![GUARD; h + 3]);
         let answer = plan(&line.periods, &line.lengths, &mut starts, &mut fills);
-        assert!(starts[n..].iter().chain(&fills[h..]).all(|entry| *entry == GUARD));
+        assert!(starts[n..]
+            .iter()
+            .chain(&fills[h..])
+            .all(|entry| *entry == GUARD));
         let mut placed = Line::default();
         let mut row_sums = vec![0; h];
         for (i, start) in starts[..n].iter().copied().enumerate() {
@@ -117,26 +124,35 @@ fn planned_lists_are_clean_and_fill_their_rows() {
             refused += 1;
             assert_eq!(answer, Answer::at(8, answer.index as usize));
             let order = planning_order(&line.periods, &line.lengths);
-            let stop = order.iter().position(|i| *i == answer.index as usize).unwrap();
+            let stop = order
+                .iter()
+                .position(|i| *i == answer.index as usize)
+                .unwrap();
             assert!(order[..stop].iter().all(|i| starts[*i] != MARK));
             assert!(order[stop..].iter().all(|i| starts[*i] == MARK));
             let h = height(&line.periods, order[stop]) as usize;
             let w = least_period(&line.periods);
             let p = line.lengths[order[stop]];
-            assert!(fills[..rows(&line.periods) as usize].iter().step_by(h).all(|f| f + p > w));
+            assert!(fills[..rows(&line.periods) as usize]
+                .iter()
+                .step_by(h)
+                .all(|f| f + p > w));
         }
     }
     println!("planned: {done} done, {refused} refused by 8");
-    assert!(done >= 500 && refused >= 500);
+    assert!(done >= 300 && refused >= 300);
 }
 
 #[test]
 fn a_table_with_room_is_planned_whole() {
     let mut random = Random::announced(SEED + 13, "room");
-    for _ in 0..1_000 {
+    for _ in 0..500 {
         let line = line_of(&mut random, Class::Roomy);
         assert!(has_room(&line.periods, &line.lengths));
-        assert!(first_fit(&line.periods, &line.lengths).answer.is_done(), "{line:?}");
+        assert!(
+            first_fit(&line.periods, &line.lengths).answer.is_done(),
+            "{line:?}"
+        );
     }
 }
 

@@ -19,15 +19,24 @@ const GUARD: u32 = 0xA5A5_A5A5;
 #[test]
 fn the_empty_table_is_sound() {
     assert_eq!(judge_table(&[], &[]), Answer::DONE);
-    assert_eq!((least_period(&[]), longest_period(&[]), rows(&[])), (0, 0, 0));
+    assert_eq!(
+        (least_period(&[]), longest_period(&[]), rows(&[])),
+        (0, 0, 0)
+    );
     let (mut starts, mut fills) = ([GUARD; 3], [GUARD; 3]);
     assert_eq!(plan(&[], &[], &mut starts, &mut fills), Answer::DONE);
     assert_eq!((starts, fills), ([GUARD; 3], [GUARD; 3]));
     assert_eq!(plan(&[], &[], &mut [], &mut []), Answer::DONE);
     assert_eq!(check_by_ticks(&[], &[], &[]), Answer::DONE);
     assert_eq!(check_by_pairs(&[], &[], &[]), Answer::DONE);
-    assert_eq!(corners_from_starts(&[], &[], &[], &mut [], &mut []), Answer::DONE);
-    assert_eq!(starts_from_corners(&[], &[], &[], &[], &mut []), Answer::DONE);
+    assert_eq!(
+        corners_from_starts(&[], &[], &[], &mut [], &mut []),
+        Answer::DONE
+    );
+    assert_eq!(
+        starts_from_corners(&[], &[], &[], &[], &mut []),
+        Answer::DONE
+    );
 }
 
 #[test]
@@ -40,9 +49,18 @@ fn number_1_counts_every_column_of_the_call() {
     assert_eq!(holder(&[4], &[1], &[], u64::MAX), Answer::plain(1));
     assert_eq!(next_start(&[4], &[1], &[], u64::MAX), Answer::plain(1));
     let (mut a, mut b) = ([0; 1], [0; 1]);
-    assert_eq!(corners_from_starts(&[4], &[1], &[], &mut a, &mut b), Answer::plain(1));
-    assert_eq!(starts_from_corners(&[4], &[1], &[0], &[], &mut a), Answer::plain(1));
-    assert_eq!(starts_from_corners(&[4], &[1], &[], &[0], &mut a), Answer::plain(1));
+    assert_eq!(
+        corners_from_starts(&[4], &[1], &[], &mut a, &mut b),
+        Answer::plain(1)
+    );
+    assert_eq!(
+        starts_from_corners(&[4], &[1], &[0], &[], &mut a),
+        Answer::plain(1)
+    );
+    assert_eq!(
+        starts_from_corners(&[4], &[1], &[], &[0], &mut a),
+        Answer::plain(1)
+    );
     // 1 before 2, and before any look at the entries
     assert_eq!(judge_table(&[0; 300], &[0; 299]), Answer::plain(1));
 }
@@ -83,7 +101,10 @@ fn number_6_begins_at_4097_rows() {
     assert_eq!(judge_table(&[256, 1_048_576], &[256, 1]), Answer::DONE);
     assert_eq!(judge_table(&[255, 255 * 4_097], &[1, 1]), Answer::plain(6));
     // 6 before 7 and 9
-    assert_eq!(plan(&[1, 8_192], &[1, 1], &mut [], &mut []), Answer::plain(6));
+    assert_eq!(
+        plan(&[1, 8_192], &[1, 1], &mut [], &mut []),
+        Answer::plain(6)
+    );
     assert_eq!(judge_list(&[1, 8_192], &[1, 1], &[5, 0]), Answer::plain(6));
 }
 
@@ -91,10 +112,19 @@ fn number_6_begins_at_4097_rows() {
 fn number_7_asks_for_n_starts_and_all_fills() {
     let (periods, lengths) = ([2, 8], [1, 1]);
     let (mut starts, mut fills) = ([GUARD; 2], [GUARD; 4]);
-    assert_eq!(plan(&periods, &lengths, &mut starts[..1], &mut fills), Answer::plain(7));
-    assert_eq!(plan(&periods, &lengths, &mut starts, &mut fills[..3]), Answer::plain(7));
+    assert_eq!(
+        plan(&periods, &lengths, &mut starts[..1], &mut fills),
+        Answer::plain(7)
+    );
+    assert_eq!(
+        plan(&periods, &lengths, &mut starts, &mut fills[..3]),
+        Answer::plain(7)
+    );
     assert_eq!((starts, fills), ([GUARD; 2], [GUARD; 4]));
-    assert_eq!(plan(&periods, &lengths, &mut starts, &mut fills), Answer::DONE);
+    assert_eq!(
+        plan(&periods, &lengths, &mut starts, &mut fills),
+        Answer::DONE
+    );
     assert_eq!((starts, fills), ([0, 1], [2, 1, 1, 1]));
     // 7 before 8
     assert_eq!(plan(&[2, 2], &[2, 2], &mut [], &mut [0]), Answer::plain(7));
@@ -104,11 +134,26 @@ fn number_7_asks_for_n_starts_and_all_fills() {
 fn number_7_comes_before_9_and_18() {
     let (mut a, mut b) = ([GUARD; 2], [GUARD; 2]);
     let (p, l) = ([4, 8], [1, 1]);
-    assert_eq!(corners_from_starts(&p, &l, &[4, 0], &mut a[..1], &mut b), Answer::plain(7));
-    assert_eq!(corners_from_starts(&p, &l, &[4, 0], &mut a, &mut b[..1]), Answer::plain(7));
-    assert_eq!(corners_from_starts(&p, &l, &[0, 8], &mut a, &mut b), Answer::at(9, 1));
-    assert_eq!(starts_from_corners(&p, &l, &[4, 0], &[0, 0], &mut a[..1]), Answer::plain(7));
-    assert_eq!(starts_from_corners(&p, &l, &[4, 0], &[0, 0], &mut a), Answer::at(18, 0));
+    assert_eq!(
+        corners_from_starts(&p, &l, &[4, 0], &mut a[..1], &mut b),
+        Answer::plain(7)
+    );
+    assert_eq!(
+        corners_from_starts(&p, &l, &[4, 0], &mut a, &mut b[..1]),
+        Answer::plain(7)
+    );
+    assert_eq!(
+        corners_from_starts(&p, &l, &[0, 8], &mut a, &mut b),
+        Answer::at(9, 1)
+    );
+    assert_eq!(
+        starts_from_corners(&p, &l, &[4, 0], &[0, 0], &mut a[..1]),
+        Answer::plain(7)
+    );
+    assert_eq!(
+        starts_from_corners(&p, &l, &[4, 0], &[0, 0], &mut a),
+        Answer::at(18, 0)
+    );
     assert_eq!((a, b), ([GUARD; 2], [GUARD; 2]));
 }
 
@@ -142,9 +187,12 @@ fn number_9_begins_at_the_period_and_takes_the_mark() {
 #[test]
 fn number_11_begins_after_two_to_the_40() {
     let (p, l, s) = ([4], [1], [3]);
-    for (tick, number) in
-        [(LATEST_TICK - 1, 0), (LATEST_TICK, 0), (LATEST_TICK + 1, 11), (u64::MAX, 11)]
-    {
+    for (tick, number) in [
+        (LATEST_TICK - 1, 0),
+        (LATEST_TICK, 0),
+        (LATEST_TICK + 1, 11),
+        (u64::MAX, 11),
+    ] {
         assert_eq!(holder(&p, &l, &s, tick).number, number);
         assert_eq!(next_start(&p, &l, &s, tick).number, number);
         assert_eq!(holder(&[], &[], &[], tick).number, number);
@@ -186,9 +234,21 @@ fn refused_everywhere(line: &Line, expected: Answer) {
     }
     let corners = corners_from_starts(&line.periods, &line.lengths, &line.starts, starts, fills);
     assert_eq!(corners, expected);
-    assert_eq!(check_by_pairs(&line.periods, &line.lengths, &line.starts), expected);
-    assert_eq!(holder(&line.periods, &line.lengths, &line.starts, u64::MAX), expected);
-    assert_eq!(next_start(&line.periods, &line.lengths, &line.starts, u64::MAX), expected);
+    let (xs, ys) = (&line.starts, &line.starts);
+    let back = starts_from_corners(&line.periods, &line.lengths, xs, ys, starts);
+    assert_eq!(back, expected);
+    assert_eq!(
+        check_by_pairs(&line.periods, &line.lengths, &line.starts),
+        expected
+    );
+    assert_eq!(
+        holder(&line.periods, &line.lengths, &line.starts, u64::MAX),
+        expected
+    );
+    assert_eq!(
+        next_start(&line.periods, &line.lengths, &line.starts, u64::MAX),
+        expected
+    );
     assert!(lent.iter().flatten().all(|entry| *entry == GUARD));
 }
 
@@ -200,7 +260,11 @@ fn broken_tables_are_refused_the_same_everywhere() {
         let fault = random.choose(&Fault::ALL);
         let line = broken_line(&mut random, fault);
         let answer = judge_table(&line.periods, &line.lengths);
-        assert_eq!(answer, number_in_words(&line.periods, &line.lengths), "{line:?}");
+        assert_eq!(
+            answer,
+            number_in_words(&line.periods, &line.lengths),
+            "{line:?}"
+        );
         let judged = judge_list(&line.periods, &line.lengths, &line.starts);
         seen[judged.number.min(6) as usize] += 1;
         if (1..=6).contains(&judged.number) {

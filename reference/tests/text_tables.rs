@@ -30,7 +30,10 @@ const CHECK: &str = env!("CARGO_BIN_EXE_check");
 fn comments_blank_lines_and_missing_starts() {
     let text = b"# a line\n\n10 3\n  20\t4 13 # level\r\n#30 1\n20 5 4294967295";
     let line = line_of_text(text).unwrap();
-    assert_eq!(line, Line::new(&[10, 20, 20], &[3, 4, 5], &[0, 13, u32::MAX]));
+    assert_eq!(
+        line,
+        Line::new(&[10, 20, 20], &[3, 4, 5], &[0, 13, u32::MAX])
+    );
     assert_eq!(text_of_line(&line), "10 3 0\n20 4 13\n20 5 4294967295\n");
     assert_eq!(line_of_text(b"").unwrap(), Line::default());
 }
@@ -69,7 +72,10 @@ fn the_converter_goes_there_and_back() {
     let text = "10 3 0\n20 4 13\n20 5 3\n";
     let made = run(BOOK, &["from-text"], text.as_bytes());
     assert!(made.status.success());
-    assert_eq!(made.stdout, line_of_text(text.as_bytes()).unwrap().to_book().unwrap());
+    assert_eq!(
+        made.stdout,
+        line_of_text(text.as_bytes()).unwrap().to_book().unwrap()
+    );
     let back = run(BOOK, &["to-text"], &made.stdout);
     assert!(back.status.success());
     assert_eq!(back.stdout, text.as_bytes());
