@@ -21,8 +21,8 @@ use Rattle.table.specs.Verdict.{verdict}
 use Rattle.chain.specs.Flip.{flip}
 use Rattle.stack.specs.FirstFit.{Outcome, outcome, planned}
 use Rattle.checker.specs.Check.{checked}
-use Rattle.book.specs.Bytes.{word}
-use Rattle.book.specs.Layout.{firstEdition, sumPlace, sumPlace2}
+use Rattle.sheets.specs.Bytes.{word}
+use Rattle.sheets.specs.Layout.{firstEdition, sumPlace, sumPlace2}
 use Rattle.book.specs.Writing.{bookOf}
 use Rattle.pages.specs.Text.{letters}
 use Rattle.pages.specs.Printed.{planText}
