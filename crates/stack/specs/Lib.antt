@@ -9,3 +9,5 @@ pub mod PackingLaws
 pub mod Placing
 pub mod Fitting
 pub mod Planning
+pub mod Follows
+pub mod Eight
