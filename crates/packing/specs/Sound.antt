@@ -7,9 +7,11 @@ use mathlib.Core.List.{List, [], _∷_, _++_}
 use Prim.Native.Nat.{ℕ, _≤_, _<_}
 use native.Mathlib.Decide.{decLt}
 use native.Mathlib.Omega.{arith}
-use lib.Dec.{ltb}
+use lib.Dec.{ltb, eqb}
 use lib.ListN.{length, getD}
-use borrow.Author.Tests.{ltb-false}
+use borrow.Author.Tests.{ltb-false, eq-eqb}
+use Rattle.lists.specs.Pick.{either, In}
+use Rattle.lists.specs.Telling.{true-or-false}
 use Rattle.lists.specs.Refusals.{Line, Silent, Silents}
 use Rattle.lists.specs.Answering.{Found, Finds, AllFind, firstOf}
 use Rattle.words.specs.Answers.{refused, done}
@@ -43,6 +45,29 @@ pub silents-right : (ls ms : List Line) → Silents (ls ++ ms) → Silents ms
 unfolding Silents
 silents-right [] ms s = s
 silents-right (l ∷ ls) ms (s, r) = silents-right ls ms r
+
+pub silents-append : (ls ms : List Line) → Silents ls → Silents ms → Silents (ls ++ ms)
+unfolding Silents
+silents-append [] ms a b = b
+silents-append (l ∷ ls) ms (s, r) b = (s, silents-append ls ms r b)
+
+-- whether a number stands in a list, computed
+unfoldable pub stands : ℕ → List ℕ → Bool
+stands k [] = false
+stands k (x ∷ xs) = either (eqb k x) (stands k xs)
+
+pub not-in : (k : ℕ) (ks : List ℕ) → stands k ks ≡ false → In k ks → ⊥
+unfolding stands In
+not-in k [] e h = h
+not-in k (x ∷ xs) e (inl f) = true-or-false (either (eqb k x) (stands k xs)) (rw (eq-eqb k x f)) e
+not-in k (x ∷ xs) e (inr h) = go (λ f. not-in k xs f h)
+  where
+    go : (stands k xs ≡ false → ⊥) → ⊥
+    go rest = by (eqb k x) e
+      where
+        by : (b : Bool) → either b (stands k xs) ≡ false → ⊥
+        by true f = true-or-false true refl f
+        by false f = rest f
 
 -- whatever columns number 1 counts, the table among them is sound
 pub sound-with : (Ts ps : List ℕ) (D : Type 0) → (Differ Ts ps → D) → Silents (lines Ts ps D) → Sound Ts ps

@@ -55,18 +55,28 @@ module _ (Ts qs : List ℕ) where
           → (fitted Ts qs is ss₁ fs₁ .answer ≡ refused 8 i → (s : StopsAt is ss₁ fs₁ i) × (fitted Ts qs is ss₁ fs₁ .fills ≡ fitted Ts qs (s .before) ss₁ fs₁ .fills))
           → (s : StopsAt (k ∷ is) ss fs i) × (fitted Ts qs (k ∷ is) ss fs .fills ≡ fitted Ts qs (s .before) ss fs .fills)
       by true t ih =
-          let (s, f) = ih (rw t at e) in
-          (record {
-            before = k ∷ s .before; after = s .after; parts = ap (λ (l : List ℕ). k ∷ l) (s .parts);
-            placed = rw t (s .placed); no-room = rw t (s .no-room);
-          }, rw t f)
+          let (s, f) = ih (rw t at e) in (
+            record {
+              before = k ∷ s .before;
+              after = s .after;
+              parts = ap (λ (l : List ℕ). k ∷ l) (s .parts);
+              placed = rw t (s .placed);
+              no-room = rw t (s .no-room);
+            },
+            rw t f,
+          )
       by false t ih =
           let same : k ≡ i = ap (λ (a : Answer). a .index) (rw t at e) in
-          let full = ltb-false (binOf Ts qs k fs) (bins fs (height Ts (getD Ts k 0))) t in
-          (record {
-            before = []; after = is; parts = ap (λ (x : ℕ). x ∷ is) same; placed = refl;
-            no-room = rw (← same) (λ j l. found-bin k fs .passed j (omega arith));
-          }, rw t)
+          let full = ltb-false (binOf Ts qs k fs) (bins fs (height Ts (getD Ts k 0))) t in (
+            record {
+              before = [];
+              after = is;
+              parts = ap (λ (x : ℕ). x ∷ is) same;
+              placed = refl;
+              no-room = rw (← same) (λ j l. found-bin k fs .passed j (omega arith));
+            },
+            rw t,
+          )
 
   stops-part : (bs as₁ ss fs : List ℕ) (i : ℕ) → fitted Ts qs bs ss fs .answer ≡ done
       → ((j : ℕ) → j < bins (fitted Ts qs bs ss fs .fills) (height Ts (getD Ts i 0)) → Fits (fitted Ts qs bs ss fs .fills) (height Ts (getD Ts i 0)) (getD qs i 0) (shortest Ts) j → ⊥)

@@ -83,10 +83,17 @@ module _ (Ts qs : List ℕ) where
           → Follows (i ∷ is) ss fs (pick b next (outcome (refused 8 i) (marked (i ∷ is) ss) fs))
       by true e ih =
           let l = ltb-true (binOf Ts qs i fs) (bins fs (height Ts (getD Ts i 0))) e in
-          inl (binOf Ts qs i fs, _, record {
-                there = l; room = found i fs .found l; lower = found i fs .passed;
-                rows = raised-rows fs (binOf Ts qs i fs * height Ts (getD Ts i 0)) (height Ts (getD Ts i 0)) (getD qs i 0) (bin-rows fs (height Ts (getD Ts i 0)) (binOf Ts qs i fs) l);
-              }, ih)
+          inl (
+            binOf Ts qs i fs,
+            _,
+            record {
+              there = l;
+              room = found i fs .found l;
+              lower = found i fs .passed;
+              rows = raised-rows fs (binOf Ts qs i fs * height Ts (getD Ts i 0)) (height Ts (getD Ts i 0)) (getD qs i 0) (bin-rows fs (height Ts (getD Ts i 0)) (binOf Ts qs i fs) l);
+            },
+            ih,
+          )
       by false e ih =
           let l = ltb-false (binOf Ts qs i fs) (bins fs (height Ts (getD Ts i 0))) e in
           inr ((λ j k. found i fs .passed j (omega arith)), refl)
@@ -96,10 +103,10 @@ module _ (Ts qs : List ℕ) where
   follows-unique [] ss fs o e = e
   follows-unique (i ∷ is) ss fs o (inl (j, gs, g, f)) =
       let same : j ≡ binOf Ts qs i fs =
-          lowest-unique (Fits fs (height Ts (getD Ts i 0)) (getD qs i 0) (shortest Ts)) (bins fs (height Ts (getD Ts i 0))) j (binOf Ts qs i fs)
-          (record { within = omega (arith, g .there); passed = g .lower; found = λ h. g .room }) (found i fs) in
+      lowest-unique (Fits fs (height Ts (getD Ts i 0)) (getD qs i 0) (shortest Ts)) (bins fs (height Ts (getD Ts i 0))) j (binOf Ts qs i fs)
+      (record { within = omega (arith, g .there); passed = g .lower; found = λ h. g .room }) (found i fs) in
       let rose : gs ≡ raised fs (j * height Ts (getD Ts i 0)) (height Ts (getD Ts i 0)) (getD qs i 0) =
-          raised-unique fs gs (j * height Ts (getD Ts i 0)) (height Ts (getD Ts i 0)) (getD qs i 0) (bin-rows fs (height Ts (getD Ts i 0)) j (g .there)) (g .rows) in
+      raised-unique fs gs (j * height Ts (getD Ts i 0)) (height Ts (getD Ts i 0)) (getD qs i 0) (bin-rows fs (height Ts (getD Ts i 0)) j (g .there)) (g .rows) in
       let l : binOf Ts qs i fs < bins fs (height Ts (getD Ts i 0)) = omega (arith, g .there) in
       rw (lt-ltb (binOf Ts qs i fs) (bins fs (height Ts (getD Ts i 0))) l)
       (rw (rose, same) at (follows-unique is (set ss i (startIn Ts qs i fs j)) gs o f))
