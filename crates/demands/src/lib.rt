@@ -1,0 +1,1 @@
+// What the calls give together: specs/ alone, and no function.
