@@ -3,12 +3,11 @@
 --     Settled c                      each outcome that meets the promise has that answer and those fills, and the wrong outcome does not meet it
 --     plan-shuts-out                 every claim of the table is settled so
 --     plan-not-one                   no outcome serves all tables
--- Not said here: the sub-bin number used as the slot number (bench_sheet, specs/ShutOut).
 -- Assumes nothing.
 use mathlib.Core.Path.{_≡_, refl, sym, ap, _∙_}
 use mathlib.Core.Bool.{false}
 use mathlib.Core.List.{List, [], _∷_}
-use Prim.Native.Nat.{ℕ, _%_}
+use Prim.Native.Nat.{ℕ, _%_, _≤_, _<_}
 use native.Mathlib.Nat.{add-mul-mod-self-left}
 use native.Mathlib.Omega.{arith}
 use lib.Dec.{eqb}
@@ -21,12 +20,16 @@ use Rattle.lists.specs.Refusals.{first-unique}
 use Rattle.lists.specs.Answering.{firstOf}
 use Rattle.words.specs.declared.Answer.{Answer}
 use Rattle.words.specs.Answers.{refused, done, mark}
+use Rattle.wire.specs.Wire.{Holds}
 use Rattle.table.specs.Table.{leastOf, greatestOf, shortest, longest, rows, height, widths}
-use Rattle.table.specs.Verdict.{divides, chained, badPeriod, badLength, unchained, findings}
+use Rattle.table.specs.Verdict.{divides, chained, badPeriod, badLength, unchained, findings, verdict}
+use Rattle.table.specs.Laws.{passes-sound, sound-gives}
+use Rattle.table.specs.Widths.{sound-positive}
 use Rattle.chain.specs.Corners.{startOf}
 use Rattle.order.specs.Order.{before, insert, orderBelow, order}
 use Rattle.stack.specs.Stack.{raised, fits, bins, lowestBin}
 use Rattle.stack.specs.FirstFit.{Outcome, outcome, marked, binOf, startIn, fitted, planLines, refusedPlan, planFindings, placed, planned}
+use Rattle.stack.specs.Planning.{fit, fit-clean}
 use Rattle.packing.specs.Plan.{Plans}
 use Rattle.packing.specs.Checks.{planned-meets}
 
@@ -61,6 +64,20 @@ abbrev seven : Outcome → Claim
 seven wrong =
     claim (8 ∷ 16 ∷ 16 ∷ 32 ∷ 32 ∷ 32 ∷ 32 ∷ []) (2 ∷ 2 ∷ 2 ∷ 4 ∷ 4 ∷ 4 ∷ 4 ∷ []) (7777 ∷ 7777 ∷ 7777 ∷ 7777 ∷ 7777 ∷ 7777 ∷ 7777 ∷ []) (7777 ∷ 7777 ∷ 7777 ∷ 7777 ∷ [])
     (refused 8 5) (6 ∷ 6 ∷ 6 ∷ 6 ∷ []) wrong
+
+-- the five with a sixth probe, 60 and 3: it fits
+abbrev six : List ℕ
+six = 10 ∷ 20 ∷ 20 ∷ 60 ∷ 60 ∷ 60 ∷ []
+
+abbrev reads : List ℕ
+reads = 3 ∷ 4 ∷ 5 ∷ 2 ∷ 3 ∷ 3 ∷ []
+
+abbrev lent : List ℕ
+lent = 7777 ∷ 7777 ∷ 7777 ∷ 7777 ∷ 7777 ∷ 7777 ∷ []
+
+-- sub-bins 3 and 4 taken for slots 3 and 4: 37 and 47 in place of 17 and 37
+abbrev subBins : Outcome
+subBins = outcome done (0 ∷ 13 ∷ 3 ∷ 8 ∷ 37 ∷ 47 ∷ []) (10 ∷ 8 ∷ 8 ∷ 10 ∷ 10 ∷ 7 ∷ [])
 
 abbrev pub claims : List Claim
 claims =
@@ -102,6 +119,8 @@ claims =
     ∷ claim (10 ∷ 10 ∷ []) (6 ∷ 4 ∷ []) (7777 ∷ []) (7777 ∷ []) (refused 7 0) (7777 ∷ []) (outcome done (0 ∷ []) (10 ∷ []))
     -- a refusal that clears the fills
     ∷ claim (10 ∷ []) (11 ∷ []) (7777 ∷ []) (7777 ∷ []) (refused 4 0) (7777 ∷ []) (outcome (refused 4 0) (7777 ∷ []) (0 ∷ []))
+    -- the sub-bin number used as the slot number, with the right answer and the right fills
+    ∷ claim six reads lent lent done (10 ∷ 8 ∷ 8 ∷ 10 ∷ 10 ∷ 7 ∷ []) subBins
     ∷ []
 
 abbrev pub Meets : Claim → Outcome → Type 0
@@ -130,11 +149,14 @@ module _ (c : Claim) where
   abbrev plan-of : Outcome
   plan-of = planned (c .periods) (c .lengths) (c .starts) (c .fills)
 
-  settled : plan-of .answer ≡ c .answer → plan-of .fills ≡ c .filled → (see : Outcome → ℕ) (m : ℕ) → see plan-of ≡ m → eqb (see (c .wrong)) m ≡ false → Settled c
-  settled a f see m e n = (
+  settled-by : plan-of .answer ≡ c .answer → plan-of .fills ≡ c .filled → (c .wrong ≡ plan-of → ⊥) → Settled c
+  settled-by a f other = (
     λ o p. (ap (λ (r : Outcome). r .answer) (is-planned _ _ _ _ o p) ∙ a, ap (λ (r : Outcome). r .fills) (is-planned _ _ _ _ o p) ∙ f),
-    λ p. true-or-false (eqb (see (c .wrong)) m) (eq-eqb _ _ (ap see (is-planned _ _ _ _ (c .wrong) p) ∙ e)) n,
+    λ p. other (is-planned _ _ _ _ (c .wrong) p),
   )
+
+  settled : plan-of .answer ≡ c .answer → plan-of .fills ≡ c .filled → (see : Outcome → ℕ) (m : ℕ) → see plan-of ≡ m → eqb (see (c .wrong)) m ≡ false → Settled c
+  settled a f see m e n = settled-by a f (λ w. true-or-false (eqb (see (c .wrong)) m) (eq-eqb _ _ (ap see w ∙ e)) n)
 
 abbrev number : Outcome → ℕ
 number o = o .answer .number
@@ -147,6 +169,22 @@ fill r o = getD (o .fills) r 0
 
 abbrev start : ℕ → Outcome → ℕ
 start i o = getD (o .starts) i 0
+
+holds-as : (T q s u t : ℕ) → s ≡ u → Holds T q s t → Holds T q u t
+holds-as T q s u t e h = rw (← e) h
+
+-- a plan is clean, and start 47 meets probe 2 at tick 47
+sub-bins-meet : subBins ≡ planned six reads lent lent → ⊥
+unfolding anyBelow lowest lowestFrom firstOf leastOf greatestOf shortest longest rows height widths divides chained badPeriod badLength unchained findings verdict before insert orderBelow order raised fits bins lowestBin marked binOf startIn fitted planFindings placed planned fit
+sub-bins-meet e =
+    let sound = sound-gives six reads (passes-sound six reads refl) in
+    let long : 6 ≤ 6 = omega arith in
+    let clean = fit-clean six reads (widths 0 reads) lent (sound .harmonic) (sound-positive six reads sound) long refl in
+    let third : 2 < 6 = omega arith in
+    let sixth : 5 < 6 = omega arith in
+    let one : _≡_ {A = ℕ} 2 5 =
+    clean 47 2 5 third sixth (holds-as 20 5 3 _ 47 (ap (start 2) e) (omega arith, omega arith)) (holds-as 60 3 47 _ 47 (ap (start 5) e) (omega arith, omega arith)) in
+    omega (arith, one)
 
 pub plan-shuts-out : Each Settled claims
 unfolding anyBelow lowest lowestFrom firstOf leastOf greatestOf shortest longest rows height widths divides chained badPeriod badLength unchained findings before insert orderBelow order raised fits bins lowestBin marked binOf startIn fitted planFindings placed planned
@@ -188,7 +226,7 @@ plan-shuts-out = (
                                     settled _ refl refl number 7 refl refl,
                                     (
                                       settled _ refl refl (fill 0) 7777 refl refl,
-                                      tt,
+                                      (settled-by _ refl refl sub-bins-meet, tt),
                                     ),
                                   ),
                                 ),
