@@ -1,0 +1,255 @@
+-- OUTCOMES THAT THE PLANNER'S PROMISE SHUTS OUT. Document 01, "What the inspector asks of each promise" and "Shortcuts that look right".
+--     claim Ts ps ss fs a gs wrong   a table with its lent columns, the answer and the fills that the promise has for it, and what a shortcut leaves behind
+--     Settled c                      each outcome that meets the promise has that answer and those fills, and the wrong outcome does not meet it
+--     plan-shuts-out                 every claim of the table is settled so
+--     plan-not-one                   no outcome serves all tables
+-- Assumes nothing.
+use mathlib.Core.Path.{_≡_, refl, sym, ap, _∙_}
+use mathlib.Core.Bool.{false}
+use mathlib.Core.List.{List, [], _∷_}
+use Prim.Native.Nat.{ℕ, _%_, _≤_, _<_}
+use native.Mathlib.Nat.{add-mul-mod-self-left}
+use native.Mathlib.Omega.{arith}
+use lib.Dec.{eqb}
+use lib.ListN.{getD}
+use borrow.Author.Tests.{eq-eqb}
+use Rattle.lists.specs.Pick.{anyBelow}
+use Rattle.lists.specs.Telling.{true-or-false}
+use Rattle.lists.specs.Lowest.{lowest, lowestFrom}
+use Rattle.lists.specs.Refusals.{first-unique}
+use Rattle.lists.specs.Answering.{firstOf}
+use Rattle.words.specs.declared.Answer.{Answer}
+use Rattle.words.specs.Answers.{refused, done, mark}
+use Rattle.wire.specs.Wire.{Holds}
+use Rattle.table.specs.Table.{leastOf, greatestOf, shortest, longest, rows, height, widths}
+use Rattle.table.specs.Verdict.{divides, chained, badPeriod, badLength, unchained, findings, verdict}
+use Rattle.table.specs.Laws.{passes-sound, sound-gives}
+use Rattle.table.specs.Widths.{sound-positive}
+use Rattle.chain.specs.Corners.{startOf}
+use Rattle.order.specs.Order.{before, insert, orderBelow, order}
+use Rattle.stack.specs.Stack.{raised, fits, bins, lowestBin}
+use Rattle.stack.specs.FirstFit.{Outcome, outcome, marked, binOf, startIn, fitted, planLines, refusedPlan, planFindings, placed, planned}
+use Rattle.stack.specs.Planning.{fit, fit-clean}
+use Rattle.packing.specs.Plan.{Plans}
+use Rattle.packing.specs.Checks.{planned-meets}
+
+pub record Claim : Type 0 where
+  pub periods : List ℕ
+  pub lengths : List ℕ
+  pub starts : List ℕ
+  pub fills : List ℕ
+  pub answer : Answer
+  pub filled : List ℕ
+  pub wrong : Outcome
+
+abbrev claim : List ℕ → List ℕ → List ℕ → List ℕ → Answer → List ℕ → Outcome → Claim
+claim Ts ps ss fs a gs wrong = record { periods = Ts; lengths = ps; starts = ss; fills = fs; answer = a; filled = gs; wrong = wrong }
+
+-- 10, 20, 20, 60, 60 with 3, 4, 5, 2, 3: it fits, with six rows
+abbrev five : Outcome → Claim
+five wrong =
+    claim (10 ∷ 20 ∷ 20 ∷ 60 ∷ 60 ∷ []) (3 ∷ 4 ∷ 5 ∷ 2 ∷ 3 ∷ []) (7777 ∷ 7777 ∷ 7777 ∷ 7777 ∷ 7777 ∷ []) (7777 ∷ 7777 ∷ 7777 ∷ 7777 ∷ 7777 ∷ 7777 ∷ [])
+    done (10 ∷ 8 ∷ 8 ∷ 10 ∷ 7 ∷ 7 ∷ []) wrong
+
+-- 10, 10 with 6, 5: the second is stuck
+abbrev full : Outcome → Claim
+full wrong = claim (10 ∷ 10 ∷ []) (6 ∷ 5 ∷ []) (7777 ∷ 7777 ∷ []) (7777 ∷ []) (refused 8 1) (6 ∷ []) wrong
+
+-- 10, 10 with 6, 4: both fit; one entry too many is lent in each column
+abbrev even : Outcome → Claim
+even wrong = claim (10 ∷ 10 ∷ []) (6 ∷ 4 ∷ []) (7777 ∷ 7777 ∷ 7777 ∷ []) (7777 ∷ 7777 ∷ []) done (10 ∷ 7777 ∷ []) wrong
+
+-- 8, 16, 16, 32 four times with 2, 2, 2, 4 four times: probe 5 is stuck
+abbrev seven : Outcome → Claim
+seven wrong =
+    claim (8 ∷ 16 ∷ 16 ∷ 32 ∷ 32 ∷ 32 ∷ 32 ∷ []) (2 ∷ 2 ∷ 2 ∷ 4 ∷ 4 ∷ 4 ∷ 4 ∷ []) (7777 ∷ 7777 ∷ 7777 ∷ 7777 ∷ 7777 ∷ 7777 ∷ 7777 ∷ []) (7777 ∷ 7777 ∷ 7777 ∷ 7777 ∷ [])
+    (refused 8 5) (6 ∷ 6 ∷ 6 ∷ 6 ∷ []) wrong
+
+-- the five with a sixth probe, 60 and 3: it fits
+abbrev six : List ℕ
+six = 10 ∷ 20 ∷ 20 ∷ 60 ∷ 60 ∷ 60 ∷ []
+
+abbrev reads : List ℕ
+reads = 3 ∷ 4 ∷ 5 ∷ 2 ∷ 3 ∷ 3 ∷ []
+
+abbrev lent : List ℕ
+lent = 7777 ∷ 7777 ∷ 7777 ∷ 7777 ∷ 7777 ∷ 7777 ∷ []
+
+-- sub-bins 3 and 4 taken for slots 3 and 4: 37 and 47 in place of 17 and 37
+abbrev subBins : Outcome
+subBins = outcome done (0 ∷ 13 ∷ 3 ∷ 8 ∷ 37 ∷ 47 ∷ []) (10 ∷ 8 ∷ 8 ∷ 10 ∷ 10 ∷ 7 ∷ [])
+
+abbrev pub claims : List Claim
+claims =
+    -- a planner that always refuses
+    five (outcome (refused 8 0) (mark ∷ mark ∷ mark ∷ mark ∷ mark ∷ []) (0 ∷ 0 ∷ 0 ∷ 0 ∷ 0 ∷ 0 ∷ []))
+    -- the same starts returned, with the right answer and the right fills
+    ∷ five (outcome done (7777 ∷ 7777 ∷ 7777 ∷ 7777 ∷ 7777 ∷ []) (10 ∷ 8 ∷ 8 ∷ 10 ∷ 7 ∷ 7 ∷ []))
+    -- the columns untouched, and 0
+    ∷ five (outcome done (7777 ∷ 7777 ∷ 7777 ∷ 7777 ∷ 7777 ∷ []) (7777 ∷ 7777 ∷ 7777 ∷ 7777 ∷ 7777 ∷ 7777 ∷ []))
+    -- the first probe placed, the others only marked, and 0
+    ∷ five (outcome done (0 ∷ mark ∷ mark ∷ mark ∷ mark ∷ []) (3 ∷ 3 ∷ 3 ∷ 3 ∷ 3 ∷ 3 ∷ []))
+    -- the first probe placed, the others only marked, and 8 with the next in planning order
+    ∷ five (outcome (refused 8 2) (0 ∷ mark ∷ mark ∷ mark ∷ mark ∷ []) (3 ∷ 3 ∷ 3 ∷ 3 ∷ 3 ∷ 3 ∷ []))
+    -- the first probe placed, the others only marked, with the right answer and the right fills
+    ∷ seven (outcome (refused 8 5) (0 ∷ mark ∷ mark ∷ mark ∷ mark ∷ mark ∷ mark ∷ []) (6 ∷ 6 ∷ 6 ∷ 6 ∷ []))
+    -- a made-up fill
+    ∷ five (outcome done (0 ∷ 13 ∷ 3 ∷ 8 ∷ 17 ∷ []) (10 ∷ 8 ∷ 8 ∷ 10 ∷ 7 ∷ 8 ∷ []))
+    -- the fills undone on 8
+    ∷ full (outcome (refused 8 1) (0 ∷ mark ∷ []) (0 ∷ []))
+    -- the fills as they were lent on 8
+    ∷ full (outcome (refused 8 1) (0 ∷ mark ∷ []) (7777 ∷ []))
+    -- the stuck probe raised all the same
+    ∷ full (outcome (refused 8 1) (0 ∷ mark ∷ []) (11 ∷ []))
+    -- the stuck probe not marked
+    ∷ full (outcome (refused 8 1) (0 ∷ 7777 ∷ []) (6 ∷ []))
+    -- 8 with no probe
+    ∷ full (outcome (refused 8 0) (0 ∷ mark ∷ []) (6 ∷ []))
+    -- a row that is exactly full refused
+    ∷ even (outcome (refused 8 1) (0 ∷ mark ∷ 7777 ∷ []) (6 ∷ 7777 ∷ []))
+    -- a start past the probes written
+    ∷ even (outcome done (0 ∷ 6 ∷ mark ∷ []) (10 ∷ 7777 ∷ []))
+    -- a fill past the rows written
+    ∷ even (outcome done (0 ∷ 6 ∷ 7777 ∷ []) (10 ∷ 0 ∷ []))
+    -- the shorter read first
+    ∷ even (outcome done (4 ∷ 0 ∷ 7777 ∷ []) (10 ∷ 7777 ∷ []))
+    -- the place in planning order named in place of the probe
+    ∷ claim (10 ∷ 10 ∷ []) (5 ∷ 6 ∷ []) (7777 ∷ 7777 ∷ []) (7777 ∷ []) (refused 8 0) (6 ∷ []) (outcome (refused 8 1) (mark ∷ 0 ∷ []) (6 ∷ []))
+    -- a column that is too short, and planned all the same
+    ∷ claim (10 ∷ 10 ∷ []) (6 ∷ 4 ∷ []) (7777 ∷ []) (7777 ∷ []) (refused 7 0) (7777 ∷ []) (outcome done (0 ∷ []) (10 ∷ []))
+    -- a refusal that clears the fills
+    ∷ claim (10 ∷ []) (11 ∷ []) (7777 ∷ []) (7777 ∷ []) (refused 4 0) (7777 ∷ []) (outcome (refused 4 0) (7777 ∷ []) (0 ∷ []))
+    -- the sub-bin number used as the slot number, with the right answer and the right fills
+    ∷ claim six reads lent lent done (10 ∷ 8 ∷ 8 ∷ 10 ∷ 10 ∷ 7 ∷ []) subBins
+    ∷ []
+
+abbrev pub Meets : Claim → Outcome → Type 0
+Meets c o = Plans (c .periods) (c .lengths) (c .starts) (c .fills) o
+
+abbrev pub Settled : Claim → Type 0
+Settled c = ((o : Outcome) → Meets c o → (o .answer ≡ c .answer) × (o .fills ≡ c .filled)) × (Meets c (c .wrong) → ⊥)
+
+abbrev pub Each : (Claim → Type 0) → List Claim → Type 0
+Each P [] = Unit {0}
+Each P (c ∷ cs) = P c × Each P cs
+
+-- each outcome that meets the promise is the one that is computed
+is-planned : (Ts ps ss fs : List ℕ) (o : Outcome) → Plans Ts ps ss fs o → o ≡ planned Ts ps ss fs
+unfolding Plans
+is-planned Ts ps ss fs o p =
+    first-unique (planLines Ts ps ss fs) (refusedPlan Ts ps ss fs) (λ r. r ≡ placed Ts ps ss fs) (λ a b e f. e ∙ sym f) o (planned Ts ps ss fs) p (planned-meets Ts ps ss fs)
+
+-- x of a start of the plan, whatever slot it has
+start-x : (Ts : List ℕ) (T x y : ℕ) → startOf Ts T x y % shortest Ts ≡ x % shortest Ts
+unfolding startOf
+start-x Ts T x y = add-mul-mod-self-left x (shortest Ts) _
+
+-- what is seen of a claim: the computed answer and fills, and a number m of the outcome that the wrong one has not
+module _ (c : Claim) where
+  abbrev plan-of : Outcome
+  plan-of = planned (c .periods) (c .lengths) (c .starts) (c .fills)
+
+  settled-by : plan-of .answer ≡ c .answer → plan-of .fills ≡ c .filled → (c .wrong ≡ plan-of → ⊥) → Settled c
+  settled-by a f other = (
+    λ o p. (ap (λ (r : Outcome). r .answer) (is-planned _ _ _ _ o p) ∙ a, ap (λ (r : Outcome). r .fills) (is-planned _ _ _ _ o p) ∙ f),
+    λ p. other (is-planned _ _ _ _ (c .wrong) p),
+  )
+
+  settled : plan-of .answer ≡ c .answer → plan-of .fills ≡ c .filled → (see : Outcome → ℕ) (m : ℕ) → see plan-of ≡ m → eqb (see (c .wrong)) m ≡ false → Settled c
+  settled a f see m e n = settled-by a f (λ w. true-or-false (eqb (see (c .wrong)) m) (eq-eqb _ _ (ap see w ∙ e)) n)
+
+abbrev number : Outcome → ℕ
+number o = o .answer .number
+
+abbrev index : Outcome → ℕ
+index o = o .answer .index
+
+abbrev fill : ℕ → Outcome → ℕ
+fill r o = getD (o .fills) r 0
+
+abbrev start : ℕ → Outcome → ℕ
+start i o = getD (o .starts) i 0
+
+holds-as : (T q s u t : ℕ) → s ≡ u → Holds T q s t → Holds T q u t
+holds-as T q s u t e h = rw (← e) h
+
+-- a plan is clean, and start 47 meets probe 2 at tick 47
+sub-bins-meet : subBins ≡ planned six reads lent lent → ⊥
+unfolding anyBelow lowest lowestFrom firstOf leastOf greatestOf shortest longest rows height widths divides chained badPeriod badLength unchained findings verdict before insert orderBelow order raised fits bins lowestBin marked binOf startIn fitted planFindings placed planned fit
+sub-bins-meet e =
+    let sound = sound-gives six reads (passes-sound six reads refl) in
+    let long : 6 ≤ 6 = omega arith in
+    let clean = fit-clean six reads (widths 0 reads) lent (sound .harmonic) (sound-positive six reads sound) long refl in
+    let third : 2 < 6 = omega arith in
+    let sixth : 5 < 6 = omega arith in
+    let one : _≡_ {A = ℕ} 2 5 =
+    clean 47 2 5 third sixth (holds-as 20 5 3 _ 47 (ap (start 2) e) (omega arith, omega arith)) (holds-as 60 3 47 _ 47 (ap (start 5) e) (omega arith, omega arith)) in
+    omega (arith, one)
+
+pub plan-shuts-out : Each Settled claims
+unfolding anyBelow lowest lowestFrom firstOf leastOf greatestOf shortest longest rows height widths divides chained badPeriod badLength unchained findings before insert orderBelow order raised fits bins lowestBin marked binOf startIn fitted planFindings placed planned
+plan-shuts-out = (
+  settled _ refl refl number 0 refl refl,
+  (
+    settled _ refl refl (λ o. start 0 o % 10) 0 (start-x (10 ∷ 20 ∷ 20 ∷ 60 ∷ 60 ∷ []) 10 0 0) refl,
+    (
+      settled _ refl refl (fill 0) 10 refl refl,
+      (
+        settled _ refl refl (fill 0) 10 refl refl,
+        (
+          settled _ refl refl number 0 refl refl,
+          (
+            settled _ refl refl (λ o. start 1 o % 8) 2 (start-x (8 ∷ 16 ∷ 16 ∷ 32 ∷ 32 ∷ 32 ∷ 32 ∷ []) 16 2 0) refl,
+            (
+              settled _ refl refl (fill 5) 7 refl refl,
+              (
+                settled _ refl refl (fill 0) 6 refl refl,
+                (
+                  settled _ refl refl (fill 0) 6 refl refl,
+                  (
+                    settled _ refl refl (fill 0) 6 refl refl,
+                    (
+                      settled _ refl refl (start 1) mark refl refl,
+                      (
+                        settled _ refl refl index 1 refl refl,
+                        (
+                          settled _ refl refl number 0 refl refl,
+                          (
+                            settled _ refl refl (start 2) 7777 refl refl,
+                            (
+                              settled _ refl refl (fill 1) 7777 refl refl,
+                              (
+                                settled _ refl refl (λ o. start 0 o % 10) 0 (start-x (10 ∷ 10 ∷ []) 10 0 0) refl,
+                                (
+                                  settled _ refl refl index 0 refl refl,
+                                  (
+                                    settled _ refl refl number 7 refl refl,
+                                    (
+                                      settled _ refl refl (fill 0) 7777 refl refl,
+                                      (settled-by _ refl refl sub-bins-meet, tt),
+                                    ),
+                                  ),
+                                ),
+                              ),
+                            ),
+                          ),
+                        ),
+                      ),
+                    ),
+                  ),
+                ),
+              ),
+            ),
+          ),
+        ),
+      ),
+    ),
+  ),
+)
+
+-- no outcome serves all tables
+pub plan-not-one : (o : Outcome) → ((Ts ps ss fs : List ℕ) → Plans Ts ps ss fs o) → ⊥
+plan-not-one o all =
+    let placed-all : o .answer ≡ done = plan-shuts-out .0 .0 o (all _ _ _ _) .0 in
+    let stuck : o .answer ≡ refused 8 5 = plan-shuts-out .1 .1 .1 .1 .1 .0 .0 o (all _ _ _ _) .0 in
+    omega (arith, ap (λ (r : Answer). r .number) (sym placed-all ∙ stuck))
