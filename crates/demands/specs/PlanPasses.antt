@@ -50,10 +50,10 @@ module _ (Ts ps ss fs : List ℕ) (o : Outcome) (p : Plans Ts ps ss fs o) (e : o
 
   passes : Passes Ts ps (take (length Ts) (o .starts))
   passes = record {
-        sound = silent-plan Ts ps ss fs o p (inl zero) .1 .sound;
-        below = λ i h l. absurd (omega (arith, written-at i h, plan-below Ts ps ss fs o p e i h));
-        same = sym written-length;
-      }
+    sound = silent-plan Ts ps ss fs o p (inl zero) .1 .sound;
+    below = λ i h l. absurd (omega (arith, written-at i h, plan-below Ts ps ss fs o p e i h));
+    same = sym written-length;
+  }
 
   pub plan-passes : (a : Answer) → Checks Ts ps (take (length Ts) (o .starts)) a → a ≡ done
   plan-passes a c = check-complete Ts ps (take (length Ts) (o .starts)) a passes written-clean c
