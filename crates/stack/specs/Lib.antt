@@ -11,3 +11,4 @@ pub mod Fitting
 pub mod Planning
 pub mod Follows
 pub mod Eight
+pub mod Pile

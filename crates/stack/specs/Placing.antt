@@ -23,7 +23,7 @@ use Rattle.chain.specs.CornerLaws.{OnGrid, start-below, corner-of-start}
 use Rattle.stack.specs.Stack.{raised, Fits, bins}
 use Rattle.stack.specs.FirstFit.{startIn}
 use Rattle.stack.specs.Packing.{CoversAt}
-use Rattle.stack.specs.Rows.{sum, length-raised, raised-below, raised-in, raised-above, sum-raised, LevelRows, level-raised}
+use Rattle.stack.specs.Rows.{sum, length-raised, raised-below, raised-in, raised-above, raised-more, sum-raised, sum-none, LevelRows, level-raised}
 
 -- the ticks of probe i in one longest period
 abbrev pub busyAt : List ℕ → List ℕ → ℕ → ℕ
@@ -44,11 +44,6 @@ pub record Placing (Ts qs ds ss fs : List ℕ) : Type 0 where
   pub apart : (i j : ℕ) → In i ds → In j ds → i ≢ j → (c r : ℕ) → CoversAt Ts qs ss i c r → CoversAt Ts qs ss j c r → ⊥
   pub count : sum fs ≡ sumOf (busyAt Ts qs) ds
 
-sum-none : (n : ℕ) → sum (replicate n 0) ≡ 0
-unfolding sumOf
-sum-none zero = refl
-sum-none (suc n) = omega (arith, sum-none n)
-
 pub placing-start : (Ts qs ss : List ℕ) → Placing Ts qs [] ss (replicate (rows Ts) 0)
 unfolding In sumOf
 placing-start Ts qs ss = record {
@@ -60,15 +55,6 @@ placing-start Ts qs ss = record {
   apart = λ i j h. absurd h;
   count = sum-none (rows Ts);
 }
-
--- a fill never falls
-raised-more : (fs : List ℕ) (y h q : ℕ) → y + h ≤ length fs → (r : ℕ) → getD fs r 0 ≤ getD (raised fs y h q) r 0
-raised-more fs y h q fits r = by (decLt r y) (decLt r (y + h))
-  where
-    by : Dec (r < y) → Dec (r < y + h) → getD fs r 0 ≤ getD (raised fs y h q) r 0
-    by (yes l) d = rw (raised-below fs y h q fits r l) (omega arith)
-    by (no l) (yes u) = rw (raised-in fs y h q fits r (omega arith) u) (omega arith)
-    by (no l) (no u) = rw (raised-above fs y h q fits r (omega arith)) (omega arith)
 
 module _ (Ts qs ds ss fs : List ℕ) (ha : Harmonic Ts) (pos : Positive qs (length Ts)) (g : Placing Ts qs ds ss fs)
     (i j : ℕ) (hi : i < length Ts) (long : i < length ss) (new : In i ds → ⊥)

@@ -1,6 +1,7 @@
 -- LAWS OF THE ROWS. What raising does, row by row.
 --     raised-in, raised-out     rows from y for h rise by q, and no other does
 --     length-raised             their number stays
+--     raised-more               a fill never falls
 --     sum-raised                the fills add up to q * h more
 --     LevelRows h fs            rows of one sub-bin of height h have one fill
 --     level-raised              raising a sub-bin of a height that h divides keeps the level of h
@@ -11,7 +12,7 @@ use Prim.Native.Nat.{ℕ, zero, suc, _+_, _-_, _*_, _/_, _%_, _≤_, _<_, _∣_,
 use native.Mathlib.Nat.{div-add-mod', mod-lt, div-lt-iff-lt-mul, le-div-iff-mul-le, mul-le-mul-right, div-mul-le-self, lt-div-mul-add, mul-div-cancel', div-mul-cancel, div-div-eq-div-mul, mul-comm}
 use native.Mathlib.Decide.{decLt, decLe}
 use native.Mathlib.Omega.{arith}
-use lib.ListN.{length, getD, take, drop, length-append, length-take, length-drop, List·getD-append}
+use lib.ListN.{length, getD, take, drop, replicate, length-append, length-take, length-drop, List·getD-append}
 use lib.Seq.{getD-take, getD-drop, getD-append-add, length-take-le}
 use Rattle.lists.specs.Sums.{sumOf, sumOf-append}
 use Rattle.stack.specs.Stack.{raise, raised}
@@ -100,6 +101,20 @@ module _ (fs : List ℕ) (y h q : ℕ) (fits : y + h ≤ length fs) where
           (ap sum (sym (lib.ListN.take-append-drop h (drop y fs)))
           ∙ sumOf-append (λ x. x) (take h (drop y fs)) (drop h (drop y fs))
           ∙ ap (λ (l : List ℕ). sum (take h (drop y fs)) + sum l) (lib.Seq.drop-drop h y fs))
+
+-- a fill never falls
+pub raised-more : (fs : List ℕ) (y h q : ℕ) → y + h ≤ length fs → (r : ℕ) → getD fs r 0 ≤ getD (raised fs y h q) r 0
+raised-more fs y h q fits r = by (decLt r y) (decLt r (y + h))
+  where
+    by : Dec (r < y) → Dec (r < y + h) → getD fs r 0 ≤ getD (raised fs y h q) r 0
+    by (yes l) d = rw (raised-below fs y h q fits r l) (omega arith)
+    by (no l) (yes u) = rw (raised-in fs y h q fits r (omega arith) u) (omega arith)
+    by (no l) (no u) = rw (raised-above fs y h q fits r (omega arith)) (omega arith)
+
+pub sum-none : (n : ℕ) → sum (replicate n 0) ≡ 0
+unfolding sumOf
+sum-none zero = refl
+sum-none (suc n) = omega (arith, sum-none n)
 
 -- rows of one sub-bin of height h have one fill
 abbrev pub LevelRows : ℕ → List ℕ → Type 0
