@@ -14,6 +14,11 @@ fn easy() -> Line {
     Line::at_zero(periods, vec![1; 256])
 }
 
+/// 256 probes of one period, so one row: what is left is the judging and the planning order.
+fn one_row() -> Line {
+    Line::at_zero(vec![W; 256], vec![1; 256])
+}
+
 /// 12 probes fill all rows but the last two; 244 of the longest period then look through nearly every sub-bin.
 fn scanning() -> Line {
     let mut line = Line::default();
@@ -108,6 +113,7 @@ fn main() {
     let line = easy();
     let starts = &bench_plan("plan, each probe in its first sub-bin", &line);
     bench_plan("plan, nearly every sub-bin looked at", &scanning());
+    bench_plan("plan, one row", &one_row());
     let (periods, lengths) = (&line.periods, &line.lengths);
     bench!("validate, 256 probes", 20, validate, periods, lengths);
     bench!(
