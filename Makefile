@@ -2,7 +2,8 @@
 # make test     the gate: all proofs and all tests
 # make check    proves what changed
 # make fmt      lays out every source
-.PHONY: plan test test-rest check fmt
+# make bench    measures the verified calls beside plain Rust
+.PHONY: plan test test-rest check fmt bench
 
 plan: check
 
@@ -18,3 +19,7 @@ check:
 
 fmt:
 	@rt fmt
+
+bench:
+	@rt staticlib trial >/dev/null
+	@cargo run --offline --locked --quiet --release --manifest-path tests/reference/compare/Cargo.toml --bin bench

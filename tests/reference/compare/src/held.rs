@@ -1,0 +1,187 @@
+//! One input of one call, held against the reference: the answer and every lent column, whole.
+
+use std::fmt::Debug;
+
+use reference::answer::Answer;
+use reference::book::{read_book, write_book};
+use reference::census::Census;
+use reference::check::{check_by_pairs, check_by_ticks};
+use reference::corners::{corners_from_starts, starts_from_corners};
+use reference::limits::NO_PROBE;
+use reference::line::Line;
+use reference::random::Random;
+use reference::shape::{longest_period, rows};
+use reference::table::judge_table;
+use reference::{plan, timetable};
+
+use crate::calls;
+use crate::rooms::{guard_bytes, guards, room};
+
+/// What a run has done so far.
+#[derive(Default)]
+pub struct Run {
+    pub census: Census,
+    pub calls: u64,
+    pub wrong: u64,
+}
+
+/// Failing inputs that are printed whole; later ones are only counted.
+const SHOWN: u64 = 5;
+
+impl Run {
+    /// Holds a result of the line against the reference's.
+    fn hold<T: PartialEq + Debug>(
+        &mut self,
+        call: &str,
+        input: &dyn Debug,
+        got: (Answer, T),
+        wanted: (Answer, T),
+    ) {
+        self.calls += 1;
+        self.census.note_number(call, wanted.0);
+        if got == wanted {
+            return;
+        }
+        self.wrong += 1;
+        if self.wrong <= SHOWN {
+            println!("{call} differs\n  input {input:?}\n  got {got:?}\n  wanted {wanted:?}");
+        }
+    }
+
+    pub fn validate(&mut self, line: &Line) {
+        self.census.note_table(line);
+        let got = calls::validate(&line.periods, &line.lengths);
+        let wanted = judge_table(&line.periods, &line.lengths);
+        self.hold("validate", line, (got, ()), (wanted, ()));
+    }
+
+    pub fn plan(&mut self, random: &mut Random, line: &Line) {
+        let sound = judge_table(&line.periods, &line.lengths).is_done();
+        let h = if sound { rows(&line.periods) } else { 3 };
+        let rooms = (room(random, line.n()), room(random, h as usize));
+        type Plan = fn(&[u32], &[u32], &mut [u32], &mut [u32]) -> Answer;
+        let by = |call: Plan| {
+            let (mut starts, mut fills) = (guards(rooms.0), guards(rooms.1));
+            let answer = call(&line.periods, &line.lengths, &mut starts, &mut fills);
+            (answer, (starts, fills))
+        };
+        self.hold("plan", &(line, rooms), by(calls::plan), by(plan::plan));
+    }
+
+    /// Corners of the starts; then the way back from these corners, and from others.
+    pub fn rectangles(&mut self, random: &mut Random, line: &Line) {
+        let n = line.n();
+        let rooms = (room(random, n), room(random, n));
+        type ToCorners = fn(&[u32], &[u32], &[u32], &mut [u32], &mut [u32]) -> Answer;
+        let by = |call: ToCorners| {
+            let (mut xs, mut ys) = (guards(rooms.0), guards(rooms.1));
+            let answer = call(&line.periods, &line.lengths, &line.starts, &mut xs, &mut ys);
+            (answer, (xs, ys))
+        };
+        let (answer, (mut xs, mut ys)) = by(corners_from_starts);
+        let wanted = (answer, (xs.clone(), ys.clone()));
+        self.hold("to_corners", &(line, rooms), by(calls::to_corners), wanted);
+        if answer.is_done() {
+            xs.truncate(n);
+            ys.truncate(n);
+        } else {
+            // A table that is refused has no corners: any will do, mostly as many as probes.
+            let count = |random: &mut Random| n + usize::from(random.once_in(16));
+            xs = vec![0; count(random)];
+            ys = vec![0; count(random)];
+        }
+        self.way_back(random, line, &xs, &ys, answer.is_done());
+        if n > 0 && xs.len() >= n && ys.len() >= n {
+            for column in [&mut xs, &mut ys] {
+                let i = random.below(n as u64) as usize;
+                let by = random.choose(&[0, 1, 2, 4_096, NO_PROBE]);
+                column[i] = column[i].wrapping_add(by);
+            }
+            self.way_back(random, line, &xs, &ys, false);
+        }
+    }
+
+    /// The way back; it gives the starts themselves where `exact` says that the corners are theirs.
+    fn way_back(&mut self, random: &mut Random, line: &Line, xs: &[u32], ys: &[u32], exact: bool) {
+        let room = room(random, line.n());
+        type ToStarts = fn(&[u32], &[u32], &[u32], &[u32], &mut [u32]) -> Answer;
+        let by = |call: ToStarts| {
+            let mut starts = guards(room);
+            let answer = call(&line.periods, &line.lengths, xs, ys, &mut starts);
+            (answer, starts)
+        };
+        let wanted = by(starts_from_corners);
+        if exact && wanted.0.is_done() {
+            assert_eq!(
+                wanted.1[..line.n()],
+                line.starts,
+                "the reference's way back"
+            );
+        }
+        self.hold(
+            "to_starts",
+            &(line, xs, ys, room),
+            by(calls::to_starts),
+            wanted,
+        );
+    }
+
+    /// The checker; small lines are walked tick by tick.
+    pub fn check(&mut self, line: &Line) {
+        let (periods, lengths, starts) = (&line.periods, &line.lengths, &line.starts);
+        let small = line.n() <= 16 && longest_period(periods) <= 400;
+        let wanted = if small {
+            check_by_ticks(periods, lengths, starts)
+        } else {
+            check_by_pairs(periods, lengths, starts)
+        };
+        self.census.note_first_tick(line, wanted);
+        let got = calls::check(periods, lengths, starts);
+        self.hold("check", line, (got, ()), (wanted, ()));
+    }
+
+    pub fn timetable(&mut self, line: &Line, tick: u64) {
+        let (periods, lengths, starts) = (&line.periods, &line.lengths, &line.starts);
+        let wanted = timetable::holder(periods, lengths, starts, tick);
+        if wanted == Answer::done_with(NO_PROBE) {
+            self.census.note("holder: idle");
+        }
+        let got = calls::holder(periods, lengths, starts, tick);
+        self.hold("holder", &(line, tick), (got, ()), (wanted, ()));
+        let wanted = timetable::next_start(periods, lengths, starts, tick);
+        if wanted == Answer::done_with(NO_PROBE) {
+            self.census.note("next_start: none");
+        }
+        let got = calls::next_start(periods, lengths, starts, tick);
+        self.hold("next_start", &(line, tick), (got, ()), (wanted, ()));
+    }
+
+    /// Writes the line, and gives the bytes of its book where there is one.
+    pub fn write(&mut self, random: &mut Random, line: &Line) -> Option<Vec<u8>> {
+        let book = line.to_book().ok();
+        let room = room(random, book.as_ref().map_or(512, Vec::len));
+        type Write = fn(&[u32], &[u32], &[u32], &mut [u8]) -> Answer;
+        let by = |call: Write| {
+            let mut bytes = guard_bytes(room);
+            let answer = call(&line.periods, &line.lengths, &line.starts, &mut bytes);
+            (answer, bytes)
+        };
+        self.hold("write", &(line, room), by(calls::write), by(write_book));
+        book
+    }
+
+    /// Reads a book of any bytes into columns with about n entries.
+    pub fn read(&mut self, random: &mut Random, book: &[u8], n: usize) {
+        let mut rooms = [n + 2; 3];
+        if random.once_in(2) {
+            rooms = [0; 3].map(|_| room(random, n));
+        }
+        type Read = fn(&[u8], &mut [u32], &mut [u32], &mut [u32]) -> Answer;
+        let by = |call: Read| {
+            let [mut periods, mut lengths, mut starts] = rooms.map(guards);
+            let answer = call(book, &mut periods, &mut lengths, &mut starts);
+            (answer, (periods, lengths, starts))
+        };
+        self.hold("read", &(book, rooms), by(calls::read), by(read_book));
+    }
+}
