@@ -1,0 +1,14 @@
+//! Prints the page of `plan` for the book on standard input.
+
+use std::io::{self, Read, Write};
+
+use reference::block::LARGEST_BOOK;
+use reference::pages::plan_page;
+
+fn main() -> io::Result<()> {
+    let mut bytes = Vec::new();
+    io::stdin()
+        .take(LARGEST_BOOK as u64 + 1)
+        .read_to_end(&mut bytes)?;
+    io::stdout().write_all(plan_page(&bytes).as_bytes())
+}
