@@ -16,7 +16,8 @@ use Rattle.wire.specs.Window.{heldIn, window, clean-alone}
 use Rattle.table.specs.Table.{widths, Sound, Late, lateLine, lines, DifferThree, listLines}
 use Rattle.table.specs.Laws.{sound-gives, mark-late}
 use Rattle.checker.specs.Check.{Judged, Checks, checked}
-use Rattle.checker.specs.Passing.{Passes, silent-passes, passes-silent, passes-gives, sound-silent, list-never-done, widths-none}
+use Rattle.table.specs.Widths.{widths-none}
+use Rattle.checker.specs.Passing.{Passes, silent-passes, passes-silent, passes-gives, sound-silent, list-never-done}
 use Rattle.checker.specs.Laws.{judged-unique, checked-meets}
 
 module _ (Ts ps ss : List ℕ) where

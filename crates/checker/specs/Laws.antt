@@ -29,7 +29,8 @@ use Rattle.table.specs.Verdict.{listFindings}
 use Rattle.table.specs.Laws.{sound-gives}
 use Rattle.table.specs.Composing.{listVerdict, list-find, list-numbered, compose-done, compose-refused, refusal-is}
 use Rattle.checker.specs.Check.{Meets, Judged, partner, opener, meetingOf, Checks, checked}
-use Rattle.checker.specs.Passing.{Passes, passes-gives, silent-passes, widths-none}
+use Rattle.table.specs.Widths.{widths-none}
+use Rattle.checker.specs.Passing.{Passes, passes-gives, silent-passes}
 
 module _ (Ts qs ss : List ℕ) where
   -- a pair that meets is in no clean list, and no pair that comes before it is named

@@ -4,14 +4,12 @@
 --     sound-silent              none of 1 to 6 applies to a list of as many starts over a sound table
 --     zero-passes               number 0 of the judge of a list says that it passes
 --     InRange Ts ps ss i        what that says of probe i
---     widths-none               where the wire needs no ticks to be free again, a read takes its length
 -- Edges: the empty list passes.
 -- Assumes nothing.
 use mathlib.Core.Path.{_≡_, refl, sym, ap, _∙_}
 use mathlib.Core.Logic.{inl, inr, ⊎-elim}
 use mathlib.Core.List.{List, [], _∷_}
-use Prim.Native.Nat.{ℕ, zero, suc, _≤_, _<_, min}
-use native.Mathlib.Nat.{add-zero}
+use Prim.Native.Nat.{ℕ, _≤_, _<_}
 use native.Mathlib.Decide.{decLt, ℕ-discrete}
 use native.Mathlib.Omega.{arith}
 use lib.ListN.{length, getD}
@@ -20,38 +18,16 @@ use Rattle.lists.specs.Refusals.{Silents, first-silents}
 use Rattle.lists.specs.Answering.{first-of}
 use Rattle.words.specs.declared.Answer.{Answer}
 use Rattle.words.specs.Answers.{refused, done}
-use Rattle.table.specs.Table.{mostPeriod, leastOf, shortest, widths, Sound, Below, DifferThree, lines, listLines}
+use Rattle.table.specs.Table.{mostPeriod, shortest, Sound, Below, DifferThree, lines, listLines}
 use Rattle.table.specs.Verdict.{listFindings}
 use Rattle.table.specs.Laws.{sound-gives}
+use Rattle.table.specs.Extremes.{shortest-least}
 use Rattle.table.specs.Composing.{listVerdict, list-find}
 
 pub record Passes (Ts ps ss : List ℕ) : Type 0 where
   pub sound : Sound Ts ps
   pub below : Below Ts ss
   pub same : length Ts ≡ length ss
-
-pub widths-none : (ps : List ℕ) → widths 0 ps ≡ ps
-unfolding widths
-widths-none [] = refl
-widths-none (p ∷ ps) = rw (add-zero p, widths-none ps)
-
--- w is at most each period
-least-first : (m : ℕ) (xs : List ℕ) → leastOf m xs ≤ m
-unfolding leastOf
-least-first m [] = omega arith
-least-first m (x ∷ xs) = omega (arith, least-first (min m x) xs)
-
-least-each : (m : ℕ) (xs : List ℕ) (i : ℕ) → i < length xs → leastOf m xs ≤ getD xs i 0
-unfolding leastOf
-least-each m [] i h = absurd (omega arith)
-least-each m (x ∷ xs) zero h = omega (arith, least-first (min m x) xs)
-least-each m (x ∷ xs) (suc i) h = least-each (min m x) xs i (omega arith)
-
-shortest-each : (Ts : List ℕ) (i : ℕ) → i < length Ts → shortest Ts ≤ getD Ts i 0
-unfolding shortest
-shortest-each [] i h = absurd (omega arith)
-shortest-each (T ∷ Ts) zero h = least-first T Ts
-shortest-each (T ∷ Ts) (suc i) h = least-each T Ts i (omega arith)
 
 module _ (Ts ps ss : List ℕ) where
   pub silent-passes : Silents (listLines Ts ps ss) → Passes Ts ps ss
@@ -109,7 +85,7 @@ module _ (Ts ps ss : List ℕ) where
         least = s .least i h;
         most = s .most i h;
         reads = s .reads i h;
-        short = omega (arith, s .short i h, shortest-each Ts i h);
+        short = omega (arith, s .short i h, shortest-least Ts i h);
         begins = under (decLt (getD ss i 0) (getD Ts i 0));
       }
     where

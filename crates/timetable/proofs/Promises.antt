@@ -21,7 +21,8 @@ use Rattle.table.specs.Table.{widths, shortest, longest, rows, greatestOf}
 use Rattle.table.specs.Verdict.{findings, verdict}
 use Rattle.table.specs.Laws.{sound-gives, passes-sound}
 use Rattle.timetable.specs.Timetable.{askLines, HeldBy, Holder, IsNextStart, NextStart, NextFrom, candidate}
-use Rattle.timetable.specs.Asking.{Asked, asked-silent, widths-none}
+use Rattle.table.specs.Widths.{widths-none}
+use Rattle.timetable.specs.Asking.{Asked, asked-silent}
 use Rattle.timetable.specs.HolderLaws.{held-unique}
 use Rattle.timetable.specs.NextLaws.{next-unique, candidate-from, candidate-starts}
 

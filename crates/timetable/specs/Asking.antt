@@ -6,13 +6,11 @@
 --     zero-asked                number 0 of the judge says so
 --     ask-judged, -late, -done  the ways out of the judge
 --     ask-refused, ask-passed   a call that asks the judge first answers the judge's refusal, or what it has to say itself
---     widths-none               where the wire needs no ticks to be free again, a read takes its length
 -- Assumes nothing.
 use mathlib.Core.Path.{_≡_, refl, sym, ap, _∙_}
 use mathlib.Core.Logic.{inl, inr, ⊎-elim}
 use mathlib.Core.List.{List, [], _∷_}
 use Prim.Native.Nat.{ℕ, _≤_, _<_}
-use native.Mathlib.Nat.{add-zero}
 use native.Mathlib.Decide.{decLe, decLt, ℕ-discrete}
 use native.Mathlib.Omega.{arith}
 use lib.ListN.{length, getD}
@@ -29,11 +27,6 @@ use Rattle.table.specs.Verdict.{listFindings}
 use Rattle.table.specs.Laws.{sound-gives}
 use Rattle.table.specs.Composing.{Numbered, numbered-append, listVerdict, list-find, list-numbered, compose-done, compose-refused, refusal-is}
 use Rattle.timetable.specs.Timetable.{askLines, askFindings}
-
-pub widths-none : (ps : List ℕ) → widths 0 ps ≡ ps
-unfolding widths
-widths-none [] = refl
-widths-none (p ∷ ps) = rw (add-zero p, widths-none ps)
 
 unfoldable pub askVerdict : List ℕ → List ℕ → List ℕ → ℕ → Answer
 askVerdict Ts ps ss t = firstOf (askFindings Ts ps ss t) refused done

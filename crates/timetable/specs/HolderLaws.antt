@@ -21,7 +21,8 @@ use Rattle.wire.specs.Wire.{HoldsAt}
 use Rattle.wire.specs.Window.{holds, holds-tells}
 use Rattle.table.specs.Table.{widths}
 use Rattle.timetable.specs.Timetable.{askLines, askFindings, phase, HeldBy, holdsTest, holderOf, Holder, holderAnswer}
-use Rattle.timetable.specs.Asking.{askVerdict, ask-find, ask-refused, ask-passed, widths-none}
+use Rattle.table.specs.Widths.{widths-none}
+use Rattle.timetable.specs.Asking.{askVerdict, ask-find, ask-refused, ask-passed}
 
 -- one probe
 pub early-holds : (T q s t : ℕ) → t < s → false ≡ holds T q s t

@@ -7,7 +7,7 @@ use lib.ListN.{length}
 use Rattle.lists.specs.Lowest.{Searching, searching-start, searching-next, searching-found, searching-none}
 use Rattle.table.specs.Laws.{sound-gives}
 use Rattle.checker.specs.Check.{partner, opener}
-use Rattle.checker.specs.Passing.{widths-none}
+use Rattle.table.specs.Widths.{widths-none}
 use Rattle.checker.specs.Steps.{has-partner, no-partner, meeting-found, meeting-none}
 use borrow.Author.Needs.{needs}
 use Rattle.checker.proofs.meeting.Statement.{statement}
