@@ -1,11 +1,20 @@
-# make plan     proves every crate
+# make plan     proves, builds the programs, and plans the sample line
+# make build    bin/plan, bin/check and the archive for C, target/staticlib/libmasters.a
 # make test     the gate: all proofs and all tests
 # make check    proves what changed
 # make fmt      lays out every source
 # make bench    measures the verified calls beside plain Rust
-.PHONY: plan test test-rest check fmt bench
+SHELL = /bin/sh
+.PHONY: plan build test test-rest check fmt bench
 
-plan: check
+plan: build
+	@bin/plan <examples/pasteuriser.book
+
+build: check
+	@mkdir -p bin
+	@cp target/bin/plan bin/plan
+	@cp target/bin/check_list bin/check
+	@rt staticlib masters >/dev/null
 
 test:
 	@.ci/run

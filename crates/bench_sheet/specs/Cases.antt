@@ -24,7 +24,7 @@ use Rattle.checker.specs.Check.{checked}
 use Rattle.sheets.specs.Bytes.{word}
 use Rattle.sheets.specs.Layout.{firstEdition, sumPlace, sumPlace2}
 use Rattle.book.specs.Writing.{bookOf}
-use Rattle.pages.specs.Text.{letters}
+use Rattle.text.specs.Text.{letters}
 use Rattle.pages.specs.Printed.{planText}
 
 pub data Case : Type 0 where

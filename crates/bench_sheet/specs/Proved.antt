@@ -30,8 +30,9 @@ use Rattle.sheets.specs.Layout.{blocksOf, recordsOf}
 use Rattle.sheets.specs.Runs.{runFrom}
 use Rattle.filling.specs.Filling.{recordOf, recordAt, headOf, sumsOf, bodyOf, blockOf}
 use Rattle.book.specs.Writing.{bookOf}
-use Rattle.pages.specs.Text.{letters, digitsThen, decimal, spaced, printedLine}
-use Rattle.pages.specs.Printed.{answerLine, startText, probeLines, planText}
+use Rattle.text.specs.Text.{letters, digitsThen, decimal, spaced, printedLine}
+use Rattle.lines.specs.Lines.{answerLine, headLine, startText, probeLine, probeLines}
+use Rattle.pages.specs.Printed.{ran, planText}
 use Rattle.bench_sheet.specs.Cases.{Case, True, AllTrue, cases}
 
 -- a plan's starts stand in it unopened; each is the one that the digits give
@@ -96,7 +97,7 @@ seven-clean =
     clean-tells seven (widths 0 ps) (0 ∷ 2 ∷ 10 ∷ 4 ∷ 12 ∷ 20 ∷ 28 ∷ []) (sound .harmonic) (sound-positive seven ps sound) .yes refl
 
 pub bench : AllTrue cases
-unfolding anyBelow lowest lowestFrom firstOf leastOf greatestOf shortest longest rows widths divides chained badPeriod badLength unchained late findings listFindings verdict lag apart sharedTick apartAt tickAt partner opener meetingOf checked product digits turned levels bytes value word byteSum placeSum blocksOf recordsOf recordOf recordAt headOf sumsOf bodyOf blockOf runFrom bookOf letters digitsThen decimal spaced printedLine answerLine startText probeLines planText
+unfolding anyBelow lowest lowestFrom firstOf leastOf greatestOf shortest longest rows widths divides chained badPeriod badLength unchained late findings listFindings verdict lag apart sharedTick apartAt tickAt partner opener meetingOf checked product digits turned levels bytes value word byteSum placeSum blocksOf recordsOf recordOf recordAt headOf sumsOf bodyOf blockOf runFrom bookOf letters digitsThen decimal spaced printedLine answerLine headLine startText probeLine probeLines ran planText
 bench = (
   flip-computes (2 ∷ 2 ∷ 3 ∷ []) 12 10,
   (

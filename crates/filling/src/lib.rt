@@ -20,7 +20,7 @@ fn put2(block: &mut [u8], at: usize, x: usize)
 }
 
 // Four bytes of x at a place, least first.
-fn put4(block: &mut [u8], at: usize, x: u32)
+pub fn put4(block: &mut [u8], at: usize, x: u32)
     requires { ⌜ at + 4 ≤ length (now block) ⌝ }
     ensures { λ r. ⌜ now (block .exit) ≡ sets (now (block .entry)) at (bytes 4 x) ⌝ }
 {
