@@ -16,7 +16,6 @@ use borrow.Author.Tests.{eq-eqb}
 use Rattle.lists.specs.Pick.{anyBelow}
 use Rattle.lists.specs.Telling.{true-or-false}
 use Rattle.lists.specs.Lowest.{lowest, lowestFrom}
-use Rattle.lists.specs.Refusals.{first-unique}
 use Rattle.lists.specs.Answering.{firstOf}
 use Rattle.words.specs.declared.Answer.{Answer}
 use Rattle.words.specs.Answers.{refused, done, mark}
@@ -28,10 +27,12 @@ use Rattle.table.specs.Widths.{sound-positive}
 use Rattle.chain.specs.Corners.{startOf}
 use Rattle.order.specs.Order.{before, insert, orderBelow, order}
 use Rattle.stack.specs.Stack.{raised, fits, bins, lowestBin}
-use Rattle.stack.specs.FirstFit.{Outcome, outcome, marked, binOf, startIn, fitted, planLines, refusedPlan, planFindings, placed, planned}
+use Rattle.stack.specs.FirstFit.{Outcome, outcome, marked, binOf, startIn, fitted, planFindings, placed, planned}
 use Rattle.stack.specs.Planning.{fit, fit-clean}
 use Rattle.packing.specs.Plan.{Plans}
 use Rattle.packing.specs.Checks.{planned-meets}
+use Rattle.packing.proofs.Promises.{plan-unique}
+use Rattle.shut_out.specs.Claims.{Each}
 
 pub record Claim : Type 0 where
   pub periods : List ℕ
@@ -129,15 +130,9 @@ Meets c o = Plans (c .periods) (c .lengths) (c .starts) (c .fills) o
 abbrev pub Settled : Claim → Type 0
 Settled c = ((o : Outcome) → Meets c o → (o .answer ≡ c .answer) × (o .fills ≡ c .filled)) × (Meets c (c .wrong) → ⊥)
 
-abbrev pub Each : (Claim → Type 0) → List Claim → Type 0
-Each P [] = Unit {0}
-Each P (c ∷ cs) = P c × Each P cs
-
 -- each outcome that meets the promise is the one that is computed
 is-planned : (Ts ps ss fs : List ℕ) (o : Outcome) → Plans Ts ps ss fs o → o ≡ planned Ts ps ss fs
-unfolding Plans
-is-planned Ts ps ss fs o p =
-    first-unique (planLines Ts ps ss fs) (refusedPlan Ts ps ss fs) (λ r. r ≡ placed Ts ps ss fs) (λ a b e f. e ∙ sym f) o (planned Ts ps ss fs) p (planned-meets Ts ps ss fs)
+is-planned Ts ps ss fs o p = plan-unique Ts ps ss fs o (planned Ts ps ss fs) p (planned-meets Ts ps ss fs)
 
 -- x of a start of the plan, whatever slot it has
 start-x : (Ts : List ℕ) (T x y : ℕ) → startOf Ts T x y % shortest Ts ≡ x % shortest Ts

@@ -1,0 +1,4 @@
+pub mod Claims
+pub mod Plan
+pub mod Check
+pub mod Timetable
