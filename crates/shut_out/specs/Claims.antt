@@ -3,15 +3,17 @@
 --     Settled P c           the right result meets the promise, and the wrong one does not
 --     Each Q cs             every claim of the table is so
 --     sameAnswer, sameList  two answers, two columns are equal: tests
+--     differs               two results of which different numbers are seen are not the same
 --     all-settled           a promise that what is computed meets, and that leaves one result: a table is settled by computing it
 -- Assumes nothing.
-use mathlib.Core.Path.{_≡_, refl, ap}
+use mathlib.Core.Path.{_≡_, refl, ap, _∙_}
 use mathlib.Core.Bool.{Bool, true, false, not}
 use mathlib.Core.List.{List, [], _∷_}
 use Prim.Native.Nat.{ℕ, suc}
 use native.Mathlib.Omega.{arith}
 use lib.Dec.{eqb}
 use lib.ListN.{length, getD}
+use borrow.Author.Tests.{eq-eqb}
 use Rattle.lists.specs.Pick.{both, Tells}
 use Rattle.lists.specs.Telling.{tells-both, tells-eq, tells-as, tells-not, tells-yes, tells-no, true-or-false}
 use Rattle.words.specs.declared.Answer.{Answer}
@@ -28,6 +30,11 @@ claim x right wrong = record { given = x; right = right; wrong = wrong }
 abbrev pub Each : {C : Type 0} → (C → Type 0) → List C → Type 0
 Each Q [] = Unit {0}
 Each Q (c ∷ cs) = Q c × Each Q cs
+
+-- claim after claim
+infixr 20 _also_
+abbrev pub _also_ : {A B : Type 0} → A → B → A × B
+a also b = (a, b)
 
 module _ {I O : Type 0} (P : I → O → Type 0) where
   abbrev pub Settled : Claim I O → Type 0
@@ -82,6 +89,9 @@ same-list-tells (x ∷ xs) (y ∷ ys) =
     let t : xs ≡ ys = e .1 in
     rw (h, t))
     (λ e. (ap (λ (l : List ℕ). getD l 0 0) e, ap behind e))
+
+pub differs : {O : Type 0} (see : O → ℕ) (o wrong : O) (m : ℕ) → see o ≡ m → eqb (see wrong) m ≡ false → wrong ≡ o → ⊥
+differs see o wrong m e n same = true-or-false (eqb (see wrong) m) (eq-eqb _ _ (ap see same ∙ e)) n
 
 module _ {I O : Type 0} (same : O → O → Bool) (tells : (a b : O) → Tells (same a b) (a ≡ b)) (f : I → O) where
   -- what is computed is the right result, and not the wrong one

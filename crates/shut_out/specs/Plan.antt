@@ -8,13 +8,10 @@ use mathlib.Core.Path.{_≡_, refl, sym, ap, _∙_}
 use mathlib.Core.Bool.{false}
 use mathlib.Core.List.{List, [], _∷_}
 use Prim.Native.Nat.{ℕ, _%_, _≤_, _<_}
-use native.Mathlib.Nat.{add-mul-mod-self-left}
 use native.Mathlib.Omega.{arith}
 use lib.Dec.{eqb}
 use lib.ListN.{getD}
-use borrow.Author.Tests.{eq-eqb}
 use Rattle.lists.specs.Pick.{anyBelow}
-use Rattle.lists.specs.Telling.{true-or-false}
 use Rattle.lists.specs.Lowest.{lowest, lowestFrom}
 use Rattle.lists.specs.Answering.{firstOf}
 use Rattle.words.specs.declared.Answer.{Answer}
@@ -24,7 +21,6 @@ use Rattle.table.specs.Table.{leastOf, greatestOf, shortest, longest, rows, hei
 use Rattle.table.specs.Verdict.{divides, chained, badPeriod, badLength, unchained, findings, verdict}
 use Rattle.table.specs.Laws.{passes-sound, sound-gives}
 use Rattle.table.specs.Widths.{sound-positive}
-use Rattle.chain.specs.Corners.{startOf}
 use Rattle.order.specs.Order.{before, insert, orderBelow, order}
 use Rattle.stack.specs.Stack.{raised, fits, bins, lowestBin}
 use Rattle.stack.specs.FirstFit.{Outcome, outcome, marked, binOf, startIn, fitted, planFindings, placed, planned}
@@ -32,7 +28,8 @@ use Rattle.stack.specs.Planning.{fit, fit-clean}
 use Rattle.packing.specs.Plan.{Plans}
 use Rattle.packing.specs.Checks.{planned-meets}
 use Rattle.packing.proofs.Promises.{plan-unique}
-use Rattle.shut_out.specs.Claims.{Each}
+use Rattle.shut_out.specs.Claims.{Each, _also_, differs}
+use Rattle.shut_out.specs.Starts.{start-x}
 
 pub record Claim : Type 0 where
   pub periods : List ℕ
@@ -134,11 +131,6 @@ Settled c = ((o : Outcome) → Meets c o → (o .answer ≡ c .answer) × (o .fi
 is-planned : (Ts ps ss fs : List ℕ) (o : Outcome) → Plans Ts ps ss fs o → o ≡ planned Ts ps ss fs
 is-planned Ts ps ss fs o p = plan-unique Ts ps ss fs o (planned Ts ps ss fs) p (planned-meets Ts ps ss fs)
 
--- x of a start of the plan, whatever slot it has
-start-x : (Ts : List ℕ) (T x y : ℕ) → startOf Ts T x y % shortest Ts ≡ x % shortest Ts
-unfolding startOf
-start-x Ts T x y = add-mul-mod-self-left x (shortest Ts) _
-
 -- what is seen of a claim: the computed answer and fills, and a number m of the outcome that the wrong one has not
 module _ (c : Claim) where
   abbrev plan-of : Outcome
@@ -151,7 +143,7 @@ module _ (c : Claim) where
   )
 
   settled : plan-of .answer ≡ c .answer → plan-of .fills ≡ c .filled → (see : Outcome → ℕ) (m : ℕ) → see plan-of ≡ m → eqb (see (c .wrong)) m ≡ false → Settled c
-  settled a f see m e n = settled-by a f (λ w. true-or-false (eqb (see (c .wrong)) m) (eq-eqb _ _ (ap see w ∙ e)) n)
+  settled a f see m e n = settled-by a f (differs see plan-of (c .wrong) m e n)
 
 abbrev number : Outcome → ℕ
 number o = o .answer .number
@@ -183,64 +175,28 @@ sub-bins-meet e =
 
 pub plan-shuts-out : Each Settled claims
 unfolding anyBelow lowest lowestFrom firstOf leastOf greatestOf shortest longest rows height widths divides chained badPeriod badLength unchained findings before insert orderBelow order raised fits bins lowestBin marked binOf startIn fitted planFindings placed planned
-plan-shuts-out = (
-  settled _ refl refl number 0 refl refl,
-  (
-    settled _ refl refl (λ o. start 0 o % 10) 0 (start-x (10 ∷ 20 ∷ 20 ∷ 60 ∷ 60 ∷ []) 10 0 0) refl,
-    (
-      settled _ refl refl (fill 0) 10 refl refl,
-      (
-        settled _ refl refl (fill 0) 10 refl refl,
-        (
-          settled _ refl refl number 0 refl refl,
-          (
-            settled _ refl refl (λ o. start 1 o % 8) 2 (start-x (8 ∷ 16 ∷ 16 ∷ 32 ∷ 32 ∷ 32 ∷ 32 ∷ []) 16 2 0) refl,
-            (
-              settled _ refl refl (fill 5) 7 refl refl,
-              (
-                settled _ refl refl (fill 0) 6 refl refl,
-                (
-                  settled _ refl refl (fill 0) 6 refl refl,
-                  (
-                    settled _ refl refl (fill 0) 6 refl refl,
-                    (
-                      settled _ refl refl (start 1) mark refl refl,
-                      (
-                        settled _ refl refl index 1 refl refl,
-                        (
-                          settled _ refl refl number 0 refl refl,
-                          (
-                            settled _ refl refl (start 2) 7777 refl refl,
-                            (
-                              settled _ refl refl (fill 1) 7777 refl refl,
-                              (
-                                settled _ refl refl (λ o. start 0 o % 10) 0 (start-x (10 ∷ 10 ∷ []) 10 0 0) refl,
-                                (
-                                  settled _ refl refl index 0 refl refl,
-                                  (
-                                    settled _ refl refl number 7 refl refl,
-                                    (
-                                      settled _ refl refl (fill 0) 7777 refl refl,
-                                      (settled-by _ refl refl sub-bins-meet, tt),
-                                    ),
-                                  ),
-                                ),
-                              ),
-                            ),
-                          ),
-                        ),
-                      ),
-                    ),
-                  ),
-                ),
-              ),
-            ),
-          ),
-        ),
-      ),
-    ),
-  ),
-)
+plan-shuts-out =
+    settled _ refl refl number 0 refl refl
+    also settled _ refl refl (λ o. start 0 o % 10) 0 (start-x (10 ∷ 20 ∷ 20 ∷ 60 ∷ 60 ∷ []) 10 0 0) refl
+    also settled _ refl refl (fill 0) 10 refl refl
+    also settled _ refl refl (fill 0) 10 refl refl
+    also settled _ refl refl number 0 refl refl
+    also settled _ refl refl (λ o. start 1 o % 8) 2 (start-x (8 ∷ 16 ∷ 16 ∷ 32 ∷ 32 ∷ 32 ∷ 32 ∷ []) 16 2 0) refl
+    also settled _ refl refl (fill 5) 7 refl refl
+    also settled _ refl refl (fill 0) 6 refl refl
+    also settled _ refl refl (fill 0) 6 refl refl
+    also settled _ refl refl (fill 0) 6 refl refl
+    also settled _ refl refl (start 1) mark refl refl
+    also settled _ refl refl index 1 refl refl
+    also settled _ refl refl number 0 refl refl
+    also settled _ refl refl (start 2) 7777 refl refl
+    also settled _ refl refl (fill 1) 7777 refl refl
+    also settled _ refl refl (λ o. start 0 o % 10) 0 (start-x (10 ∷ 10 ∷ []) 10 0 0) refl
+    also settled _ refl refl index 0 refl refl
+    also settled _ refl refl number 7 refl refl
+    also settled _ refl refl (fill 0) 7777 refl refl
+    also settled-by _ refl refl sub-bins-meet
+    also tt
 
 -- no outcome serves all tables
 pub plan-not-one : (o : Outcome) → ((Ts ps ss fs : List ℕ) → Plans Ts ps ss fs o) → ⊥
