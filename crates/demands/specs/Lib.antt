@@ -1,1 +1,7 @@
+pub mod Demands
+pub mod Meeting
+pub mod Planning
 pub mod PlanPasses
+pub mod Rectangles
+pub mod Busy
+pub mod BookOrder
