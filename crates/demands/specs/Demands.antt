@@ -105,27 +105,30 @@ pub record DemandOne : Type 0 where
       → Determined (Writes firstEdition Ts ps ss out) (λ o. o .answer .number) (writeLines firstEdition Ts ps ss out) (λ k i. pages (refused k i) out)
       (λ o. o ≡ doneWrite firstEdition Ts ps ss out) (1 ∷ 2 ∷ 7 ∷ []) (0 ∷ 1 ∷ 2 ∷ 7 ∷ [])
 
+itself : {A : Type 0} → A ↔ A
+itself = (λ p. p, λ p. p)
+
 pub demand-one : DemandOne
 unfolding Validates ToCorners ToStarts Plans Checks Holder NextFrom Reads Writes
 demand-one = record {
   validate = λ Ts ps.
-      record { some = (verdict Ts ps, verdict-meets Ts ps); one = validate-unique Ts ps; first = λ o. (λ p. p, λ p. p); asked = refl; listed = validate-numbers Ts ps };
+      record { some = (verdict Ts ps, verdict-meets Ts ps); one = validate-unique Ts ps; first = λ o. itself; asked = refl; listed = validate-numbers Ts ps };
   to-corners = λ Ts ps ss xs ys.
-      record { some = (cornersOf Ts ps ss xs ys, corners-meet Ts ps ss xs ys); one = to-corners-unique Ts ps ss xs ys; first = λ o. (λ p. p, λ p. p); asked = refl; listed = to-corners-numbers Ts ps ss xs ys };
+      record { some = (cornersOf Ts ps ss xs ys, corners-meet Ts ps ss xs ys); one = to-corners-unique Ts ps ss xs ys; first = λ o. itself; asked = refl; listed = to-corners-numbers Ts ps ss xs ys };
   to-starts = λ Ts ps xs ys ss.
-      record { some = (startsOf Ts ps xs ys ss, starts-meet Ts ps xs ys ss); one = to-starts-unique Ts ps xs ys ss; first = λ o. (λ p. p, λ p. p); asked = refl; listed = to-starts-numbers Ts ps xs ys ss };
+      record { some = (startsOf Ts ps xs ys ss, starts-meet Ts ps xs ys ss); one = to-starts-unique Ts ps xs ys ss; first = λ o. itself; asked = refl; listed = to-starts-numbers Ts ps xs ys ss };
   plan = λ Ts ps ss fs.
-      record { some = (planned Ts ps ss fs, planned-meets Ts ps ss fs); one = plan-unique Ts ps ss fs; first = λ o. (λ p. p, λ p. p); asked = refl; listed = plan-numbers Ts ps ss fs };
+      record { some = (planned Ts ps ss fs, planned-meets Ts ps ss fs); one = plan-unique Ts ps ss fs; first = λ o. itself; asked = refl; listed = plan-numbers Ts ps ss fs };
   check = λ Ts ps ss.
-      record { some = (checked Ts ps ss, check-total Ts ps ss); one = check-unique Ts ps ss; first = λ o. (λ p. p, λ p. p); asked = refl; listed = check-numbers Ts ps ss };
+      record { some = (checked Ts ps ss, check-total Ts ps ss); one = check-unique Ts ps ss; first = λ o. itself; asked = refl; listed = check-numbers Ts ps ss };
   holder = λ Ts ps ss t.
-      record { some = (holderAnswer Ts ps ss t, holder-meets Ts ps ss t); one = holder-unique Ts ps ss t; first = λ o. (λ p. p, λ p. p); asked = refl; listed = holder-numbers Ts ps ss t };
+      record { some = (holderAnswer Ts ps ss t, holder-meets Ts ps ss t); one = holder-unique Ts ps ss t; first = λ o. itself; asked = refl; listed = holder-numbers Ts ps ss t };
   next-start = λ Ts ps ss t.
-      record { some = (nextAnswer Ts ps ss t, next-meets Ts ps ss t); one = next-start-unique Ts ps ss t; first = λ o. (λ p. p, λ p. p); asked = refl; listed = next-start-numbers Ts ps ss t };
+      record { some = (nextAnswer Ts ps ss t, next-meets Ts ps ss t); one = next-start-unique Ts ps ss t; first = λ o. itself; asked = refl; listed = next-start-numbers Ts ps ss t };
   read = λ bs Ts ps ss.
-      record { some = (readOf firstEdition bs Ts ps ss, read-meets firstEdition bs Ts ps ss); one = read-unique firstEdition bs Ts ps ss; first = λ o. (λ p. p, λ p. p); asked = ap (λ (l : List ℕ). 20 ∷ l) (read-order bs Ts ps ss); listed = read-numbers firstEdition bs Ts ps ss };
+      record { some = (readOf firstEdition bs Ts ps ss, read-meets firstEdition bs Ts ps ss); one = read-unique firstEdition bs Ts ps ss; first = λ o. itself; asked = ap (λ (l : List ℕ). 20 ∷ l) (read-order bs Ts ps ss); listed = read-numbers firstEdition bs Ts ps ss };
   write = λ Ts ps ss out.
-      record { some = (writeOf firstEdition Ts ps ss out, write-meets firstEdition Ts ps ss out); one = write-unique firstEdition Ts ps ss out; first = λ o. (λ p. p, λ p. p); asked = refl; listed = write-numbers firstEdition Ts ps ss out };
+      record { some = (writeOf firstEdition Ts ps ss out, write-meets firstEdition Ts ps ss out); one = write-unique firstEdition Ts ps ss out; first = λ o. itself; asked = refl; listed = write-numbers firstEdition Ts ps ss out };
 }
 
 -- DEMAND 2, planning: the starts and the first H fills are what first fit over empty rows gives, and nothing else is; it ends with 0, or with 8 where first fit stops; the starts of 0

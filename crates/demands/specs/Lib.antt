@@ -1,4 +1,5 @@
 pub mod Demands
+pub mod Neighbours
 pub mod Meeting
 pub mod Planning
 pub mod PlanPasses
