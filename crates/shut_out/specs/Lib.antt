@@ -6,3 +6,5 @@ pub mod Plan
 pub mod Check
 pub mod Unmoved
 pub mod Timetable
+pub mod Read
+pub mod Write
