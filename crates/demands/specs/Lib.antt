@@ -1,5 +1,6 @@
 pub mod Demands
 pub mod Neighbours
+pub mod FlipTable
 pub mod Meeting
 pub mod Planning
 pub mod PlanPasses

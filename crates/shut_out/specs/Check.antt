@@ -32,33 +32,33 @@ list Ts ps ss right wrong = claim (Ts, ps, ss) right wrong
 
 abbrev pub claims : List (Claim Lent Answer)
 claims =
-    -- "always 0": one verdict for all lists
+    -- "a checker with one verdict for all lists": 0
     list (10 ∷ 10 ∷ []) (6 ∷ 5 ∷ []) (0 ∷ 5 ∷ []) (pair 10 0 1 5) done
-    -- "always 10": one verdict for all lists
+    -- "a checker with one verdict for all lists": 10
     ∷ list (10 ∷ 10 ∷ []) (6 ∷ 4 ∷ []) (0 ∷ 6 ∷ []) done (pair 10 0 1 0)
-    -- the longer probe's first read taken as the meeting
+    -- "Taking a longer probe's first read as the meeting: above, tick 1 is not shared."
     ∷ list (10 ∷ 20 ∷ []) (5 ∷ 1 ∷ []) (8 ∷ 1 ∷ []) (pair 10 0 1 21) (pair 10 0 1 1)
-    -- only the first longest period compared
+    -- "Comparing only within the first longest period, which misses that tick 21."
     ∷ list (10 ∷ 20 ∷ []) (5 ∷ 1 ∷ []) (8 ∷ 1 ∷ []) (pair 10 0 1 21) done
-    -- by rectangles without the move
+    -- "Judging a foreign list by rectangles without moving it to o": specs/Unmoved has the sentence itself
     ∷ list (10 ∷ []) (5 ∷ []) (8 ∷ []) done (refused 10 0)
     -- d with the wrong sign
     ∷ list (10 ∷ 10 ∷ []) (3 ∷ 5 ∷ []) (0 ∷ 4 ∷ []) done (pair 10 0 1 8)
     -- d by the longer period
     ∷ list (20 ∷ 10 ∷ []) (1 ∷ 5 ∷ []) (1 ∷ 8 ∷ []) (pair 10 0 1 21) done
-    -- the pair by period
+    -- "the pair with least first number": the shorter period first
     ∷ list (20 ∷ 10 ∷ []) (1 ∷ 5 ∷ []) (1 ∷ 8 ∷ []) (pair 10 0 1 21) (pair 10 1 0 21)
-    -- the earliest of all meetings
+    -- "It need not be the earliest of all meetings": that one named
     ∷ list (10 ∷ 10 ∷ 10 ∷ []) (2 ∷ 2 ∷ 5 ∷ []) (8 ∷ 4 ∷ 5 ∷ []) (pair 10 0 2 8) (pair 10 1 2 5)
     -- off by one at p = d
     ∷ list (10 ∷ 10 ∷ []) (4 ∷ 3 ∷ []) (0 ∷ 4 ∷ []) done (pair 10 0 1 4)
     -- off by one at d = T - p
     ∷ list (10 ∷ 10 ∷ []) (4 ∷ 3 ∷ []) (0 ∷ 7 ∷ []) done (pair 10 0 1 10)
-    -- a made-up tick
+    -- "a made-up shared tick or fill": a tick that is not shared
     ∷ list (10 ∷ 10 ∷ []) (6 ∷ 5 ∷ []) (0 ∷ 5 ∷ []) (pair 10 0 1 5) (pair 10 0 1 7)
-    -- a tick that is shared, but not the first
+    -- "that pair's first shared tick": a later one
     ∷ list (10 ∷ 10 ∷ []) (6 ∷ 5 ∷ []) (0 ∷ 5 ∷ []) (pair 10 0 1 5) (pair 10 0 1 15)
-    -- the mark taken for a start
+    -- "handed back in a list it is refused as 9": the mark taken for a start
     ∷ list (10 ∷ 10 ∷ []) (6 ∷ 5 ∷ []) (0 ∷ mark ∷ []) (refused 9 1) (pair 10 0 1 5)
     -- starts that are missing taken for 0
     ∷ list (10 ∷ []) (5 ∷ []) [] (refused 1 0) done

@@ -8,3 +8,4 @@ pub mod Unmoved
 pub mod Timetable
 pub mod Read
 pub mod Write
+pub mod Programs

@@ -79,45 +79,45 @@ subBins = outcome done (0 ∷ 13 ∷ 3 ∷ 8 ∷ 37 ∷ 47 ∷ []) (10 ∷ 8 ∷
 
 abbrev pub claims : List Claim
 claims =
-    -- a planner that always refuses
+    -- "a planner that always refuses (8 has an exact condition)"
     five (outcome (refused 8 0) (mark ∷ mark ∷ mark ∷ mark ∷ mark ∷ []) (0 ∷ 0 ∷ 0 ∷ 0 ∷ 0 ∷ 0 ∷ []))
-    -- the same starts returned, with the right answer and the right fills
+    -- "one that returns the same starts": those that it was lent, with the right answer and the right fills
     ∷ five (outcome done (7777 ∷ 7777 ∷ 7777 ∷ 7777 ∷ 7777 ∷ []) (10 ∷ 8 ∷ 8 ∷ 10 ∷ 7 ∷ 7 ∷ []))
-    -- the columns untouched, and 0
+    -- "one that leaves the columns untouched and says 0"
     ∷ five (outcome done (7777 ∷ 7777 ∷ 7777 ∷ 7777 ∷ 7777 ∷ []) (7777 ∷ 7777 ∷ 7777 ∷ 7777 ∷ 7777 ∷ 7777 ∷ []))
-    -- the first probe placed, the others only marked, and 0
+    -- "one that places the first probe and only marks later ones", and says 0
     ∷ five (outcome done (0 ∷ mark ∷ mark ∷ mark ∷ mark ∷ []) (3 ∷ 3 ∷ 3 ∷ 3 ∷ 3 ∷ 3 ∷ []))
-    -- the first probe placed, the others only marked, and 8 with the next in planning order
+    -- "one that places the first probe and only marks later ones", with 8 and the next in planning order
     ∷ five (outcome (refused 8 2) (0 ∷ mark ∷ mark ∷ mark ∷ mark ∷ []) (3 ∷ 3 ∷ 3 ∷ 3 ∷ 3 ∷ 3 ∷ []))
-    -- the first probe placed, the others only marked, with the right answer and the right fills
+    -- "one that places the first probe and only marks later ones", with the right answer and the right fills
     ∷ seven (outcome (refused 8 5) (0 ∷ mark ∷ mark ∷ mark ∷ mark ∷ mark ∷ mark ∷ []) (6 ∷ 6 ∷ 6 ∷ 6 ∷ []))
-    -- a made-up fill
+    -- "a made-up shared tick or fill": a fill
     ∷ five (outcome done (0 ∷ 13 ∷ 3 ∷ 8 ∷ 17 ∷ []) (10 ∷ 8 ∷ 8 ∷ 10 ∷ 7 ∷ 8 ∷ []))
-    -- the fills undone on 8
+    -- "Undoing fills on number 8": empty rows
     ∷ full (outcome (refused 8 1) (0 ∷ mark ∷ []) (0 ∷ []))
-    -- the fills as they were lent on 8
+    -- "Undoing fills on number 8": the fills as they were lent
     ∷ full (outcome (refused 8 1) (0 ∷ mark ∷ []) (7777 ∷ []))
     -- the stuck probe raised all the same
     ∷ full (outcome (refused 8 1) (0 ∷ mark ∷ []) (11 ∷ []))
-    -- the stuck probe not marked
+    -- "it and all later ones in planning order get the mark": the stuck probe does not
     ∷ full (outcome (refused 8 1) (0 ∷ 7777 ∷ []) (6 ∷ []))
-    -- 8 with no probe
+    -- number 8 has "that probe" as its index: none named
     ∷ full (outcome (refused 8 0) (0 ∷ mark ∷ []) (6 ∷ []))
-    -- a row that is exactly full refused
+    -- "fill of row j*h plus p at most w": a row that is exactly full refused
     ∷ even (outcome (refused 8 1) (0 ∷ mark ∷ 7777 ∷ []) (6 ∷ 7777 ∷ []))
-    -- a start past the probes written
+    -- "Entries past the table's n probes or H rows are never written": a start is
     ∷ even (outcome done (0 ∷ 6 ∷ mark ∷ []) (10 ∷ 7777 ∷ []))
-    -- a fill past the rows written
+    -- "Entries past the table's n probes or H rows are never written": a fill is
     ∷ even (outcome done (0 ∷ 6 ∷ 7777 ∷ []) (10 ∷ 0 ∷ []))
-    -- the shorter read first
+    -- "then longer read": the shorter one first
     ∷ even (outcome done (4 ∷ 0 ∷ 7777 ∷ []) (10 ∷ 7777 ∷ []))
     -- the place in planning order named in place of the probe
     ∷ claim (10 ∷ 10 ∷ []) (5 ∷ 6 ∷ []) (7777 ∷ 7777 ∷ []) (7777 ∷ []) (refused 8 0) (6 ∷ []) (outcome (refused 8 1) (mark ∷ 0 ∷ []) (6 ∷ []))
-    -- a column that is too short, and planned all the same
+    -- "a result slice is too short": planned all the same
     ∷ claim (10 ∷ 10 ∷ []) (6 ∷ 4 ∷ []) (7777 ∷ []) (7777 ∷ []) (refused 7 0) (7777 ∷ []) (outcome done (0 ∷ []) (10 ∷ []))
-    -- a refusal that clears the fills
+    -- "Numbers 1 to 7, 9, 18 and 11 write nothing": the fills cleared
     ∷ claim (10 ∷ []) (11 ∷ []) (7777 ∷ []) (7777 ∷ []) (refused 4 0) (7777 ∷ []) (outcome (refused 4 0) (7777 ∷ []) (0 ∷ []))
-    -- the sub-bin number used as the slot number, with the right answer and the right fills
+    -- "Using the sub-bin number as the slot number", with the right answer and the right fills
     ∷ claim six reads lent lent done (10 ∷ 8 ∷ 8 ∷ 10 ∷ 10 ∷ 7 ∷ []) subBins
     ∷ []
 
