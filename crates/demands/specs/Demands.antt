@@ -19,18 +19,18 @@
 -- Edges: no call asks anything of its input; the empty table is sound.
 -- Assumes nothing.
 use mathlib.Core.Path.{_≡_, refl, ap}
-use mathlib.Core.Logic.{_↔_, _⊎_, inl, inr, _≢_}
+use mathlib.Core.Logic.{_↔_, _⊎_, _≢_}
 use mathlib.Core.List.{List, [], _∷_, _++_}
-use Prim.Native.Nat.{ℕ, zero, suc, _+_, _≤_, _<_}
+use Prim.Native.Nat.{ℕ, _+_, _≤_, _<_}
 use lib.ListN.{length, getD, take, drop, replicate}
 use Rattle.lists.specs.Pick.{In}
-use Rattle.lists.specs.Refusals.{Line, whole, First, numbers}
+use Rattle.lists.specs.Refusals.{Line, First, numbers}
 use Rattle.lists.specs.Sums.{sumBelow}
 use Rattle.words.specs.declared.Answer.{Answer}
 use Rattle.words.specs.Answers.{refused, done, mark}
 use Rattle.wire.specs.Wire.{HoldsAt, Clean}
 use Rattle.wire.specs.Window.{heldIn}
-use Rattle.table.specs.Table.{lines, listLines, Differ, Sound, shortest, longest, rows, widths}
+use Rattle.table.specs.Table.{lines, listLines, Differ, Sound, longest, rows, widths}
 use Rattle.table.specs.Verdict.{Validates, verdict}
 use Rattle.table.specs.Laws.{verdict-meets, sound-gives, never-mark}
 use Rattle.table.specs.Widths.{widths-none}
@@ -54,8 +54,8 @@ use Rattle.timetable.specs.HolderLaws.{holder-meets}
 use Rattle.timetable.specs.NextLaws.{next-meets}
 use Rattle.timetable.proofs.Promises.{holder-unique, holder-numbers, next-start-unique, next-start-numbers}
 use Rattle.sheets.specs.Layout.{firstEdition}
-use Rattle.book.specs.Reading.{blocksIn, Columns, columns, readLines, doneRead, Reads, readOf}
-use Rattle.book.specs.Writing.{Pages, pages, writeLines, doneWrite, Writes, writeOf}
+use Rattle.book.specs.Reading.{blocksIn, columns, readLines, doneRead, Reads, readOf}
+use Rattle.book.specs.Writing.{pages, writeLines, doneWrite, Writes, writeOf}
 use Rattle.book.specs.ReadLaws.{read-meets}
 use Rattle.book.specs.WriteLaws.{write-meets}
 use Rattle.book.proofs.Promises.{read-unique, read-numbers, write-unique, write-numbers}

@@ -4,9 +4,8 @@
 --     flip-not-back             "a flip that gives its number back" is not the flip
 -- Assumes nothing.
 use mathlib.Core.Path.{_≡_, refl, sym, _∙_}
-use mathlib.Core.List.{List, [], _∷_, reverse}
+use mathlib.Core.List.{List, [], _∷_}
 use Prim.Native.Nat.{ℕ}
-use native.Mathlib.Omega.{arith}
 use lib.Dec.{eqb}
 use Rattle.lists.specs.Telling.{tells-eq}
 use Rattle.chain.specs.Digits.{product, digits}

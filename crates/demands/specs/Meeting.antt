@@ -15,7 +15,7 @@ use Rattle.words.specs.Answers.{done}
 use Rattle.wire.specs.Wire.{Clean}
 use Rattle.wire.specs.Meeting.{lag, Apart}
 use Rattle.wire.specs.Apartness.{apart-sound, apart-complete, apart-as-printed}
-use Rattle.table.specs.Table.{Sound, shortest}
+use Rattle.table.specs.Table.{Sound}
 use Rattle.table.specs.Laws.{Soundness, sound-gives}
 use Rattle.table.specs.Extremes.{shortest-least}
 use Rattle.checker.specs.Check.{Checks}

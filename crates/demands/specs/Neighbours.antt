@@ -7,10 +7,10 @@
 --     FromAnyTick               beside demand 3: also from before a probe's first start, of the next T ticks exactly p are the probe's
 --     BusyOnly                  beside demand 3: no probe is left without a place where the busy ticks of one longest period come to at most that period
 -- Assumes nothing.
-use mathlib.Core.Path.{_≡_, refl, sym, ap, _∙_}
+use mathlib.Core.Path.{_≡_, refl, ap}
 use mathlib.Core.Logic.{inl, _≢_}
 use mathlib.Core.List.{List, [], _∷_}
-use Prim.Native.Nat.{ℕ, zero, suc, _-_, _%_, _≤_, _<_, _∣_}
+use Prim.Native.Nat.{ℕ, zero, suc, _≤_, _<_, _∣_}
 use native.Mathlib.Nat.{dvd-of-mod-eq-zero}
 use native.Mathlib.Omega.{arith}
 use lib.ListN.{length, getD}
@@ -23,7 +23,7 @@ use Rattle.wire.specs.Wire.{NeverMeet, HoldsAt, Clean}
 use Rattle.wire.specs.Meeting.{lag, Apart, apart, sharedTick, apartAt, tickAt, apartBelow, cleanBelow, clean}
 use Rattle.wire.specs.CleanTest.{clean-tells}
 use Rattle.wire.specs.Window.{held, heldIn}
-use Rattle.table.specs.Table.{Sound, BadPeriod, BadLength, leastOf, greatestOf, shortest, longest, rows, height, widths}
+use Rattle.table.specs.Table.{Sound, BadLength, leastOf, greatestOf, shortest, longest, rows, height, widths}
 use Rattle.table.specs.Verdict.{Validates, divides, chained, badPeriod, badLength, unchained, late, findings, listFindings, verdict}
 use Rattle.table.specs.Laws.{verdict-meets, passes-sound, sound-gives}
 use Rattle.table.specs.Composing.{listVerdict}

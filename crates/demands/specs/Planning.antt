@@ -13,7 +13,6 @@ use lib.Dec.{ltb}
 use lib.ListN.{length, getD, set, drop, replicate}
 use Rattle.lists.specs.Pick.{pick}
 use Rattle.lists.specs.Refusals.{Silents, whole, first-rest}
-use Rattle.words.specs.declared.Answer.{Answer}
 use Rattle.words.specs.Answers.{refused, done}
 use Rattle.table.specs.Table.{Sound, lines, Differ, rows, height, widths}
 use Rattle.table.specs.Widths.{widths-none}

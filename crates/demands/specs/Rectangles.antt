@@ -3,7 +3,7 @@
 --     back-and-there        corners that were converted, and their starts converted: the same corners
 -- Edges: of the columns that the first call wrote, the second is lent the first n entries; its own entries past n stay.
 -- Assumes nothing.
-use mathlib.Core.Path.{_≡_, refl, sym, ap, _∙_}
+use mathlib.Core.Path.{_≡_, sym, ap, _∙_}
 use mathlib.Core.Logic.{_⊎_, ⊎-elim}
 use mathlib.Core.List.{List, [], _∷_, _++_}
 use Prim.Native.Nat.{ℕ, _≤_, _<_}

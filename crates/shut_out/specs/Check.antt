@@ -3,7 +3,7 @@
 --     check-shuts-out             every claim of the table is settled: the right answer meets the promise, and the wrong one does not
 --     check-not-one               "a checker with one verdict for all lists": no answer serves them all
 -- Assumes nothing.
-use mathlib.Core.Path.{_≡_, refl, sym, ap, _∙_}
+use mathlib.Core.Path.{refl, sym, ap, _∙_}
 use mathlib.Core.List.{List, [], _∷_}
 use Prim.Native.Nat.{ℕ}
 use native.Mathlib.Omega.{arith}

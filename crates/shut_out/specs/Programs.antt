@@ -7,7 +7,7 @@
 --     marks-no-planner          nor one that only marks the probes behind the first in planning order
 --     one-verdict-no-checker    one with one number for all lists is no checker
 -- Assumes nothing.
-use mathlib.Core.Path.{_≡_, refl, sym, ap, _∙_}
+use mathlib.Core.Path.{_≡_, sym, ap, _∙_}
 use mathlib.Core.Logic.{_≢_}
 use mathlib.Core.List.{List, [], _∷_}
 use Prim.Native.Nat.{ℕ, _%_, _<_}

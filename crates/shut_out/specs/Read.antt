@@ -8,17 +8,16 @@ use mathlib.Core.Path.{_≡_, refl, ap}
 use mathlib.Core.Bool.{Bool}
 use mathlib.Core.List.{List, [], _∷_, _++_}
 use Prim.Native.Nat.{ℕ}
-use lib.ListN.{length, take, drop, set, replicate}
+use lib.ListN.{take, set, replicate}
 use Rattle.lists.specs.Pick.{both, Tells}
 use Rattle.lists.specs.Telling.{tells-both, tells-as}
 use Rattle.lists.specs.Answering.{firstOf}
-use Rattle.words.specs.declared.Answer.{Answer}
 use Rattle.words.specs.Answers.{refused}
 use Rattle.sheets.specs.Bytes.{bytes, value, word, byteSum, placeSum, allZero}
 use Rattle.sheets.specs.Layout.{firstEdition, blocksOf, recordsOf}
 use Rattle.sheets.specs.Runs.{runFrom}
 use Rattle.judging.specs.Block.{wrongSum, wrongField, unused, usedUnused}
-use Rattle.filling.specs.Filling.{recordOf, recordAt, headOf, bodyOf, sumsOf, blockOf}
+use Rattle.filling.specs.Filling.{recordOf, recordAt, headOf, bodyOf, sumsOf}
 use Rattle.book.specs.Reading.{badSize, blockAt, blocksIn, nOf, blockFindings, field, column, Columns, columns, readFindings, doneRead, Reads, readOf}
 use Rattle.book.specs.ReadLaws.{read-meets}
 use Rattle.book.proofs.Promises.{read-unique}

@@ -3,7 +3,7 @@
 --     holder-shuts-out              every claim of the holder's table is settled: the right answer meets the promise, and the wrong one does not
 --     next-start-shuts-out          and every claim of the next start's
 -- Assumes nothing.
-use mathlib.Core.Path.{_≡_, refl}
+use mathlib.Core.Path.{refl}
 use mathlib.Core.List.{List, [], _∷_}
 use Prim.Native.Nat.{ℕ, suc}
 use Rattle.lists.specs.Pick.{anyBelow}

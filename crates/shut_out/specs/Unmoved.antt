@@ -4,16 +4,15 @@
 --     unmoved-shut-out          it is false
 --     pokes-out                 the list of 01 is clean, and its rectangle is not inside
 -- Assumes nothing.
-use mathlib.Core.Path.{_≡_, refl}
+use mathlib.Core.Path.{refl}
 use mathlib.Core.Logic.{_↔_}
 use mathlib.Core.List.{List, [], _∷_}
-use Prim.Native.Nat.{ℕ, zero, suc, _+_, _≤_, _<_}
+use Prim.Native.Nat.{ℕ, _≤_, _<_}
 use native.Mathlib.Omega.{arith}
-use lib.ListN.{length, getD}
 use Rattle.lists.specs.Pick.{anyBelow}
 use Rattle.lists.specs.Lowest.{lowest, lowestFrom}
 use Rattle.lists.specs.Answering.{firstOf}
-use Rattle.wire.specs.Wire.{HoldsAt, Clean}
+use Rattle.wire.specs.Wire.{Clean}
 use Rattle.table.specs.Table.{leastOf, greatestOf, shortest, longest, rows}
 use Rattle.table.specs.Verdict.{divides, chained, badPeriod, badLength, unchained, late, findings, listFindings}
 use Rattle.table.specs.Composing.{listVerdict}

@@ -6,11 +6,10 @@ use mathlib.Core.Path.{_≡_, refl, ap}
 use mathlib.Core.Bool.{Bool}
 use mathlib.Core.List.{List, [], _∷_, _++_}
 use Prim.Native.Nat.{ℕ}
-use lib.ListN.{length, take, drop, set, replicate}
+use lib.ListN.{take, set, replicate}
 use Rattle.lists.specs.Pick.{both, Tells}
 use Rattle.lists.specs.Telling.{tells-both, tells-as}
 use Rattle.lists.specs.Answering.{firstOf}
-use Rattle.words.specs.declared.Answer.{Answer}
 use Rattle.words.specs.Answers.{refused, done}
 use Rattle.sheets.specs.Bytes.{bytes, byteSum, placeSum}
 use Rattle.sheets.specs.Layout.{firstEdition, blocksOf, recordsOf}
