@@ -1,4 +1,4 @@
--- BUSY TICKS, COUNTED. The customer's demand 3: "the table's busy ticks in one longest period".
+-- BUSY TICKS, COUNTED. The customer's demand 3, second sentence: what its busy ticks of one longest period are.
 --     busy-counted          whatever the starts, of any M ticks in a row from all of them on, the probes' ticks add up to busyTicks
 -- Edges: a tick that two probes hold counts twice; in a clean list there is none.
 -- Assumes nothing.

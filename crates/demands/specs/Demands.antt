@@ -1,8 +1,9 @@
 -- THE THREE DEMANDS OF THE CUSTOMER, as three theorems. Open this file first: each statement is in words of the definitions alone, and each line of a proof cites a law.
---     demand-one                Every call takes any table, start list or book. Bad input is refused by a number from the list, the first that applies in the fixed order, and what then
---                               stands in the lent columns is laid down. That every call comes to an end is no sentence of this page: the verdict of each crate says it.
---     demand-two                Over a sound table a list passes exactly when no two probes ever hold the same tick; planning is first fit; rectangles convert without loss.
---     demand-three              In a list that passes each probe has its share of the wire to itself; with room no probe is left without a place.
+--     demand-one                Any input is answered: by the refusal of the first line that applies, in 01's order and at its lowest place, with the lent columns as they were; and where
+--                               none applies, by what the call is for. That each call ends is no sentence of this page: the verdict of its crate says it.
+--     demand-two                Over a sound table: passing is that no two probes ever hold the same tick, the published condition says the same, planning is first fit, and starts
+--                               and rectangles turn into one another without loss.
+--     demand-three              In a list that passes each probe has its share of the wire, and has it alone; where there is room every probe gets a place.
 -- Words: Ts ps ss are periods, lengths and starts; n is length Ts; a probe is its place i; what is said of a call is said of every result o that meets its promise.
 --     Validates, ToCorners, ToStarts, Plans, Checks, Holder, NextFrom, Reads, Writes     the promises of the nine calls      (table, packing, checker, timetable, book)
 --     First ls refuse Rest o    o is the refusal of the first of the lines that applies, at its lowest place; where none does, Rest holds of o                   (lists/Refusals)
@@ -143,16 +144,17 @@ pub record FirstFit (Ts ps ss fs : List ℕ) (o : Outcome) : Type 0 where
   pub checked : o .answer ≡ done → (a : Answer) → Checks Ts ps (take (length Ts) (o .starts)) a → a ≡ done
 
 pub record DemandTwo (Ts ps : List ℕ) : Type 0 where
-  -- "a list of starts each below its period passes exactly when no two probes ever hold the wire on the same tick, for ever, under the published collision condition"
+  -- the checker's answer to starts that lie below their periods is 0 exactly when no tick there is, ever, is held by two probes
   pub passes : (ss : List ℕ) → length Ts ≡ length ss → ((i : ℕ) → i < length Ts → getD ss i 0 < getD Ts i 0) → (a : Answer) → Checks Ts ps ss a → (a ≡ done) ↔ Clean Ts ps ss
+  -- and exactly when the published condition holds of every pair
   pub condition : (ss : List ℕ) → Clean Ts ps ss ↔ Published Ts ps ss
-  -- the packing verdict says the same
+  -- and exactly when the rectangles, moved to o, lie inside the width and apart
   pub verdict : (ss : List ℕ) → length Ts ≡ length ss → ((i : ℕ) → i < length Ts → getD ss i 0 < getD Ts i 0) → Packs Ts ps ps ss ↔ Clean Ts ps ss
-  -- "Planning follows the published first-fit packing to the tick, with 01's ties"
+  -- planning is first fit, in an order that has every probe once and 01's ties
   pub planning : (ss fs : List ℕ) → length Ts ≤ length ss → rows Ts ≤ length fs → (o : Outcome) → Plans Ts ps ss fs o → FirstFit Ts ps ss fs o
   pub ties : (k l : ℕ) → k < l → l < length Ts → Before Ts ps (getD (order Ts ps) k 0) (getD (order Ts ps) l 0)
   pub every : (i : ℕ) → i < length Ts → (k : ℕ) × (k < length Ts) × (getD (order Ts ps) k 0 ≡ i) × ((l : ℕ) → l < length Ts → getD (order Ts ps) l 0 ≡ i → l ≡ k)
-  -- "starts turn into rectangles and rectangles into starts without loss"
+  -- starts that were turned into rectangles come back, and rectangles that were turned into starts
   pub rectangles : (ss xs ys zs : List ℕ) (o : Corners) (r : Starts) → ToCorners Ts ps ss xs ys o → o .answer ≡ done → length Ts ≤ length zs
       → ToStarts Ts ps (take (length Ts) (o .xs)) (take (length Ts) (o .ys)) zs r → r ≡ asStarts done (ss ++ drop (length Ts) zs)
   pub starts : (xs ys ss us vs : List ℕ) (o : Starts) (r : Corners) → ToStarts Ts ps xs ys ss o → o .answer ≡ done → length Ts ≤ length us → length Ts ≤ length vs
@@ -180,16 +182,14 @@ demand-two Ts ps s = record {
 }
 
 pub record DemandThree (Ts ps : List ℕ) : Type 0 where
-  -- "In a start list that passes, count from any tick at or after a probe's first start: of the next ticks, as many as its period, exactly its read length are that probe's, and no
-  -- other probe has any of those"
+  -- counted from any tick that is not before the probe's first start: of the next T ticks exactly p are the probe's, and none of these is another's too
   pub share : (ss : List ℕ) → Checks Ts ps ss done → (i a : ℕ) → i < length Ts → getD ss i 0 ≤ a
       → (heldIn (getD Ts i 0) (getD ps i 0) (getD ss i 0) a (getD Ts i 0) ≡ getD ps i 0)
       × ((j t : ℕ) → j < length Ts → i ≢ j → a ≤ t → t < a + getD Ts i 0 → HoldsAt Ts ps ss i t → HoldsAt Ts ps ss j t → ⊥)
-  -- "When a sound table is planned with room for the result, no probe is left without a place if the table's busy ticks in one longest period, plus the longest read once for each
-  -- shortest period in it, come to at most the longest period"
+  -- a sound table with Room, planned into columns that are long enough: done, and no start is the mark
   pub room : Sound Ts ps → Room Ts ps → (ss fs : List ℕ) → length Ts ≤ length ss → rows Ts ≤ length fs → (o : Outcome) → Plans Ts ps ss fs o
       → (o .answer ≡ done) × ((i : ℕ) → i < length Ts → getD (o .starts) i 0 ≢ mark)
-  -- and those busy ticks are ticks of the wire
+  -- the busy ticks of Room are ticks of the wire: those that the probes hold in M ticks in a row, from all their starts on
   pub busy : Sound Ts ps → (ss : List ℕ) (a : ℕ) → ((i : ℕ) → i < length Ts → getD ss i 0 ≤ a)
       → sumBelow (λ i. heldIn (getD Ts i 0) (getD ps i 0) (getD ss i 0) a (longest Ts)) (length Ts) ≡ busyTicks Ts ps
 
