@@ -16,6 +16,7 @@
 --     Before, order             the planning order with 01's ties                                                                                                (order/Order)
 --     Follows, StopsAt          first fit over rows; the probe at which it stops                                                                                 (stack/Follows, stack/Eight)
 --     Packs Ts ps ps ss         the packing verdict, with its move to o                                                                                          (stack/Packing)
+--     OffGrid Ts T x y          number 18 refuses the corner                                                                                                     (chain/Corners)
 --     Room Ts ps                busy ticks of one longest period, and the longest read once for each shortest period in it, come to at most that period          (stack/Room)
 -- Edges: no call asks anything of its input; the empty table is sound.
 -- Assumes nothing.
@@ -36,6 +37,7 @@ use Rattle.table.specs.Verdict.{Validates, verdict}
 use Rattle.table.specs.Laws.{verdict-meets, sound-gives, never-mark}
 use Rattle.table.specs.Widths.{widths-none}
 use Rattle.table.proofs.Promises.{validate-unique, validate-numbers}
+use Rattle.chain.specs.Corners.{OffGrid}
 use Rattle.order.specs.Order.{Before, order}
 use Rattle.order.specs.Listed.{order-sorted, order-once}
 use Rattle.stack.specs.FirstFit.{Outcome, outcome, planLines, placed, planned}
@@ -154,11 +156,16 @@ pub record DemandTwo (Ts ps : List ℕ) : Type 0 where
   pub planning : (ss fs : List ℕ) → length Ts ≤ length ss → rows Ts ≤ length fs → (o : Outcome) → Plans Ts ps ss fs o → FirstFit Ts ps ss fs o
   pub ties : (k l : ℕ) → k < l → l < length Ts → Before Ts ps (getD (order Ts ps) k 0) (getD (order Ts ps) l 0)
   pub every : (i : ℕ) → i < length Ts → (k : ℕ) × (k < length Ts) × (getD (order Ts ps) k 0 ≡ i) × ((l : ℕ) → l < length Ts → getD (order Ts ps) l 0 ≡ i → l ≡ k)
-  -- starts that were turned into rectangles come back, and rectangles that were turned into starts
-  pub rectangles : (ss xs ys zs : List ℕ) (o : Corners) (r : Starts) → ToCorners Ts ps ss xs ys o → o .answer ≡ done → length Ts ≤ length zs
-      → ToStarts Ts ps (take (length Ts) (o .xs)) (take (length Ts) (o .ys)) zs r → r ≡ asStarts done (ss ++ drop (length Ts) zs)
-  pub starts : (xs ys ss us vs : List ℕ) (o : Starts) (r : Corners) → ToStarts Ts ps xs ys ss o → o .answer ≡ done → length Ts ≤ length us → length Ts ≤ length vs
-      → ToCorners Ts ps (take (length Ts) (o .starts)) us vs r → r ≡ corners done (xs ++ drop (length Ts) us) (ys ++ drop (length Ts) vs)
+  -- starts below their periods turn into rectangles, and these into the same starts
+  pub rectangles : (ss xs ys zs : List ℕ) → length Ts ≡ length ss → ((i : ℕ) → i < length Ts → getD ss i 0 < getD Ts i 0)
+      → length Ts ≤ length xs → length Ts ≤ length ys → length Ts ≤ length zs → (o : Corners) (r : Starts) → ToCorners Ts ps ss xs ys o
+      → ToStarts Ts ps (take (length Ts) (o .xs)) (take (length Ts) (o .ys)) zs r
+      → (o .answer ≡ done) × (r ≡ asStarts done (ss ++ drop (length Ts) zs))
+  -- corners that 18 doesn't refuse turn into starts, and these into the same corners
+  pub starts : (xs ys ss us vs : List ℕ) → length Ts ≡ length xs → length Ts ≡ length ys → ((i : ℕ) → i < length Ts → OffGrid Ts (getD Ts i 0) (getD xs i 0) (getD ys i 0) → ⊥)
+      → length Ts ≤ length ss → length Ts ≤ length us → length Ts ≤ length vs → (o : Starts) (r : Corners) → ToStarts Ts ps xs ys ss o
+      → ToCorners Ts ps (take (length Ts) (o .starts)) us vs r
+      → (o .answer ≡ done) × (r ≡ corners done (xs ++ drop (length Ts) us) (ys ++ drop (length Ts) vs))
 
 pub demand-two : (Ts ps : List ℕ) → Sound Ts ps → DemandTwo Ts ps
 demand-two Ts ps s = record {
@@ -177,8 +184,8 @@ demand-two Ts ps s = record {
       };
   ties = order-sorted Ts ps;
   every = order-once Ts ps;
-  rectangles = there-and-back Ts ps;
-  starts = back-and-there Ts ps;
+  rectangles = there-and-back Ts ps s;
+  starts = back-and-there Ts ps s;
 }
 
 pub record DemandThree (Ts ps : List ℕ) : Type 0 where
