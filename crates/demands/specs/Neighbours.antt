@@ -1,6 +1,6 @@
 -- SENTENCES BESIDE THE THREE DEMANDS THAT ARE FALSE. Each is stated as it would be promised, and refuted by numbers.
---     ProbeByProbe              beside demand 1: the probe that a refusal names is the lowest bad one, whatever is wrong with it
---     RefusalsWriteNothing      beside demand 1: with any number but 0 the lent columns are as they were
+--     ProbeByProbe              beside demand 1: no probe before the one that a refusal names has a bad length
+--     RefusalsWriteNothing      beside demand 1: with any number but 0 the fills are as they were lent
 --     FirstPeriodOnly           beside demand 2: a list in which no tick of the first longest period is held by two probes is clean
 --     EitherPeriod              beside demand 2: the published condition may be taken by the longer period
 --     PlannedIfClean            beside demand 2: where some list of starts is clean, first fit places every probe

@@ -35,41 +35,41 @@ ask Ts ps ss t right wrong = claim (Ts, ps, ss, t) right wrong
 
 abbrev pub holderClaims : List (Claim Lent Answer)
 holderClaims =
-    -- held before the start
+    -- "holds tick t when t >= s": held before the start
     ask (10 ∷ []) (5 ∷ []) (8 ∷ []) 3 (refused 0 mark) (refused 0 0)
-    -- the last tick of a read counted free
+    -- "After a read's last tick the wire is free": the last tick counted free
     ∷ ask (10 ∷ []) (5 ∷ []) (8 ∷ []) 12 (refused 0 0) (refused 0 mark)
-    -- the tick after it counted held
+    -- "After a read's last tick the wire is free": the tick after it counted held
     ∷ ask (10 ∷ []) (5 ∷ []) (8 ∷ []) 13 (refused 0 mark) (refused 0 0)
-    -- the highest probe that holds the tick
+    -- "the lowest-numbered probe holding tick t": the highest
     ∷ ask (10 ∷ 10 ∷ []) (6 ∷ 5 ∷ []) (0 ∷ 4 ∷ []) 5 (refused 0 0) (refused 0 1)
-    -- the start of the read as the tick
+    -- "fields not named are 0": the start of the read as the tick
     ∷ ask (10 ∷ []) (5 ∷ []) (8 ∷ []) 12 (refused 0 0) (pair 0 0 0 8)
-    -- always idle
+    -- a timetable that always says idle
     ∷ ask (10 ∷ []) (5 ∷ []) (0 ∷ []) 0 (refused 0 0) (refused 0 mark)
-    -- a tick that is too late taken
+    -- "a tick asked about is too late": taken
     ∷ ask (10 ∷ []) (5 ∷ []) (0 ∷ []) (suc lastTick) (refused 11 0) (refused 0 0)
-    -- the last tick refused
+    -- "tick asked about: 0 to 1,099,511,627,776": the last one refused
     ∷ ask (10 ∷ []) (5 ∷ []) (0 ∷ []) lastTick (refused 0 mark) (refused 11 0)
-    -- idle as the first probe
+    -- "An empty table answers idle": the first probe named
     ∷ ask [] [] [] 7 (refused 0 mark) (refused 0 0)
     ∷ []
 
 abbrev pub nextClaims : List (Claim Lent Answer)
 nextClaims =
-    -- a start strictly after the tick
+    -- "the least tick from t on": a start strictly after the tick
     ask (10 ∷ []) (5 ∷ []) (8 ∷ []) 18 (pair 0 0 0 18) (pair 0 0 0 28)
-    -- the first start, though it is past
+    -- "the least tick from t on": the first start, though it is past
     ∷ ask (10 ∷ []) (5 ∷ []) (8 ∷ []) 9 (pair 0 0 0 18) (pair 0 0 0 8)
-    -- the highest of the probes that start then
+    -- "with the lowest such probe": the highest
     ∷ ask (10 ∷ 10 ∷ []) (5 ∷ 5 ∷ []) (3 ∷ 3 ∷ []) 0 (pair 0 0 0 3) (pair 0 1 0 3)
-    -- the lowest probe, though another starts sooner
+    -- "the least tick .. at which some probe starts a read": the lowest probe's, though another starts sooner
     ∷ ask (10 ∷ 10 ∷ []) (5 ∷ 5 ∷ []) (8 ∷ 3 ∷ []) 0 (pair 0 1 0 3) (pair 0 0 0 8)
-    -- no start, though there is a probe
+    -- a timetable that always says no start
     ∷ ask (10 ∷ []) (5 ∷ []) (8 ∷ []) 0 (pair 0 0 0 8) (refused 0 mark)
-    -- a start past the last tick refused
+    -- a start past the last tick that may be asked about refused
     ∷ ask (1048576 ∷ []) (5 ∷ []) (1048575 ∷ []) lastTick (pair 0 0 0 1099512676351) (refused 11 0)
-    -- no start as the first probe
+    -- "An empty table answers idle, or no start": the first probe named
     ∷ ask [] [] [] 7 (refused 0 mark) (refused 0 0)
     ∷ []
 
