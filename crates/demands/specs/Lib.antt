@@ -1,1 +1,9 @@
+pub mod Demands
+pub mod Neighbours
+pub mod FlipTable
+pub mod Meeting
+pub mod Planning
 pub mod PlanPasses
+pub mod Rectangles
+pub mod Busy
+pub mod BookOrder

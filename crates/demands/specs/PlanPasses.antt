@@ -1,20 +1,19 @@
 -- WHAT THE PLANNER ANSWERS WITH 0, THE CHECKER PASSES. Demand 2: one definition of clean stands behind both.
 --     plan-passes           a done plan's n starts, handed to the checker, give 0
 -- Assumes nothing.
-use mathlib.Core.Path.{_≡_, refl, sym, ap, _∙_}
-use mathlib.Core.Logic.{inl, _≢_}
+use mathlib.Core.Path.{_≡_, sym, ap}
+use mathlib.Core.Logic.{inl}
 use mathlib.Core.List.{List}
-use Prim.Native.Nat.{ℕ, _≤_, _<_}
+use Prim.Native.Nat.{ℕ, _<_}
 use native.Mathlib.Omega.{arith}
 use lib.ListN.{length, getD, take}
 use lib.Seq.{getD-take, length-take-le}
 use Rattle.words.specs.declared.Answer.{Answer}
 use Rattle.words.specs.Answers.{done}
-use Rattle.wire.specs.Wire.{HoldsAt, Clean}
-use Rattle.wire.specs.Window.{heldIn}
+use Rattle.wire.specs.Wire.{Clean}
 use Rattle.table.specs.Table.{widths}
 use Rattle.table.specs.Widths.{widths-none}
-use Rattle.stack.specs.FirstFit.{Outcome, placed, fitted}
+use Rattle.stack.specs.FirstFit.{Outcome, placed}
 use Rattle.stack.specs.Planning.{fit, fit-holds}
 use Rattle.table.specs.Laws.{sound-gives}
 use Rattle.table.specs.Widths.{sound-positive}
@@ -23,7 +22,7 @@ use Rattle.packing.specs.Ends.{silent-plan}
 use Rattle.packing.proofs.Promises.{plan-below, plan-clean}
 use Rattle.checker.specs.Check.{Checks}
 use Rattle.checker.specs.Passing.{Passes}
-use Rattle.checker.proofs.Promises.{check-complete, check-alone}
+use Rattle.checker.proofs.Promises.{check-complete}
 
 module _ (Ts ps ss fs : List ℕ) (o : Outcome) (p : Plans Ts ps ss fs o) (e : o .answer ≡ done) where
   -- the starts that the plan wrote

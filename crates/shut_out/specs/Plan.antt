@@ -8,15 +8,11 @@ use mathlib.Core.Path.{_≡_, refl, sym, ap, _∙_}
 use mathlib.Core.Bool.{false}
 use mathlib.Core.List.{List, [], _∷_}
 use Prim.Native.Nat.{ℕ, _%_, _≤_, _<_}
-use native.Mathlib.Nat.{add-mul-mod-self-left}
 use native.Mathlib.Omega.{arith}
 use lib.Dec.{eqb}
 use lib.ListN.{getD}
-use borrow.Author.Tests.{eq-eqb}
 use Rattle.lists.specs.Pick.{anyBelow}
-use Rattle.lists.specs.Telling.{true-or-false}
 use Rattle.lists.specs.Lowest.{lowest, lowestFrom}
-use Rattle.lists.specs.Refusals.{first-unique}
 use Rattle.lists.specs.Answering.{firstOf}
 use Rattle.words.specs.declared.Answer.{Answer}
 use Rattle.words.specs.Answers.{refused, done, mark}
@@ -25,13 +21,15 @@ use Rattle.table.specs.Table.{leastOf, greatestOf, shortest, longest, rows, hei
 use Rattle.table.specs.Verdict.{divides, chained, badPeriod, badLength, unchained, findings, verdict}
 use Rattle.table.specs.Laws.{passes-sound, sound-gives}
 use Rattle.table.specs.Widths.{sound-positive}
-use Rattle.chain.specs.Corners.{startOf}
 use Rattle.order.specs.Order.{before, insert, orderBelow, order}
 use Rattle.stack.specs.Stack.{raised, fits, bins, lowestBin}
-use Rattle.stack.specs.FirstFit.{Outcome, outcome, marked, binOf, startIn, fitted, planLines, refusedPlan, planFindings, placed, planned}
+use Rattle.stack.specs.FirstFit.{Outcome, outcome, marked, binOf, startIn, fitted, planFindings, placed, planned}
 use Rattle.stack.specs.Planning.{fit, fit-clean}
 use Rattle.packing.specs.Plan.{Plans}
 use Rattle.packing.specs.Checks.{planned-meets}
+use Rattle.packing.proofs.Promises.{plan-unique}
+use Rattle.shut_out.specs.Claims.{Each, _also_, differs}
+use Rattle.shut_out.specs.Starts.{start-x}
 
 pub record Claim : Type 0 where
   pub periods : List ℕ
@@ -81,45 +79,45 @@ subBins = outcome done (0 ∷ 13 ∷ 3 ∷ 8 ∷ 37 ∷ 47 ∷ []) (10 ∷ 8 ∷
 
 abbrev pub claims : List Claim
 claims =
-    -- a planner that always refuses
+    -- "a planner that always refuses (8 has an exact condition)"
     five (outcome (refused 8 0) (mark ∷ mark ∷ mark ∷ mark ∷ mark ∷ []) (0 ∷ 0 ∷ 0 ∷ 0 ∷ 0 ∷ 0 ∷ []))
-    -- the same starts returned, with the right answer and the right fills
+    -- "one that returns the same starts": those that it was lent, with the right answer and the right fills
     ∷ five (outcome done (7777 ∷ 7777 ∷ 7777 ∷ 7777 ∷ 7777 ∷ []) (10 ∷ 8 ∷ 8 ∷ 10 ∷ 7 ∷ 7 ∷ []))
-    -- the columns untouched, and 0
+    -- "one that leaves the columns untouched and says 0"
     ∷ five (outcome done (7777 ∷ 7777 ∷ 7777 ∷ 7777 ∷ 7777 ∷ []) (7777 ∷ 7777 ∷ 7777 ∷ 7777 ∷ 7777 ∷ 7777 ∷ []))
-    -- the first probe placed, the others only marked, and 0
+    -- "one that places the first probe and only marks later ones", and says 0
     ∷ five (outcome done (0 ∷ mark ∷ mark ∷ mark ∷ mark ∷ []) (3 ∷ 3 ∷ 3 ∷ 3 ∷ 3 ∷ 3 ∷ []))
-    -- the first probe placed, the others only marked, and 8 with the next in planning order
+    -- "one that places the first probe and only marks later ones", with 8 and the next in planning order
     ∷ five (outcome (refused 8 2) (0 ∷ mark ∷ mark ∷ mark ∷ mark ∷ []) (3 ∷ 3 ∷ 3 ∷ 3 ∷ 3 ∷ 3 ∷ []))
-    -- the first probe placed, the others only marked, with the right answer and the right fills
+    -- "one that places the first probe and only marks later ones", with the right answer and the right fills
     ∷ seven (outcome (refused 8 5) (0 ∷ mark ∷ mark ∷ mark ∷ mark ∷ mark ∷ mark ∷ []) (6 ∷ 6 ∷ 6 ∷ 6 ∷ []))
-    -- a made-up fill
+    -- "a made-up shared tick or fill": a fill
     ∷ five (outcome done (0 ∷ 13 ∷ 3 ∷ 8 ∷ 17 ∷ []) (10 ∷ 8 ∷ 8 ∷ 10 ∷ 7 ∷ 8 ∷ []))
-    -- the fills undone on 8
+    -- "Undoing fills on number 8": empty rows
     ∷ full (outcome (refused 8 1) (0 ∷ mark ∷ []) (0 ∷ []))
-    -- the fills as they were lent on 8
+    -- "Undoing fills on number 8": the fills as they were lent
     ∷ full (outcome (refused 8 1) (0 ∷ mark ∷ []) (7777 ∷ []))
     -- the stuck probe raised all the same
     ∷ full (outcome (refused 8 1) (0 ∷ mark ∷ []) (11 ∷ []))
-    -- the stuck probe not marked
+    -- "it and all later ones in planning order get the mark": the stuck probe does not
     ∷ full (outcome (refused 8 1) (0 ∷ 7777 ∷ []) (6 ∷ []))
-    -- 8 with no probe
+    -- number 8 has "that probe" as its index: none named
     ∷ full (outcome (refused 8 0) (0 ∷ mark ∷ []) (6 ∷ []))
-    -- a row that is exactly full refused
+    -- "fill of row j*h plus p at most w": a row that is exactly full refused
     ∷ even (outcome (refused 8 1) (0 ∷ mark ∷ 7777 ∷ []) (6 ∷ 7777 ∷ []))
-    -- a start past the probes written
+    -- "Entries past the table's n probes or H rows are never written": a start is
     ∷ even (outcome done (0 ∷ 6 ∷ mark ∷ []) (10 ∷ 7777 ∷ []))
-    -- a fill past the rows written
+    -- "Entries past the table's n probes or H rows are never written": a fill is
     ∷ even (outcome done (0 ∷ 6 ∷ 7777 ∷ []) (10 ∷ 0 ∷ []))
-    -- the shorter read first
+    -- "then longer read": the shorter one first
     ∷ even (outcome done (4 ∷ 0 ∷ 7777 ∷ []) (10 ∷ 7777 ∷ []))
     -- the place in planning order named in place of the probe
     ∷ claim (10 ∷ 10 ∷ []) (5 ∷ 6 ∷ []) (7777 ∷ 7777 ∷ []) (7777 ∷ []) (refused 8 0) (6 ∷ []) (outcome (refused 8 1) (mark ∷ 0 ∷ []) (6 ∷ []))
-    -- a column that is too short, and planned all the same
+    -- "a result slice is too short": planned all the same
     ∷ claim (10 ∷ 10 ∷ []) (6 ∷ 4 ∷ []) (7777 ∷ []) (7777 ∷ []) (refused 7 0) (7777 ∷ []) (outcome done (0 ∷ []) (10 ∷ []))
-    -- a refusal that clears the fills
+    -- "Numbers 1 to 7, 9, 18 and 11 write nothing": the fills cleared
     ∷ claim (10 ∷ []) (11 ∷ []) (7777 ∷ []) (7777 ∷ []) (refused 4 0) (7777 ∷ []) (outcome (refused 4 0) (7777 ∷ []) (0 ∷ []))
-    -- the sub-bin number used as the slot number, with the right answer and the right fills
+    -- "Using the sub-bin number as the slot number", with the right answer and the right fills
     ∷ claim six reads lent lent done (10 ∷ 8 ∷ 8 ∷ 10 ∷ 10 ∷ 7 ∷ []) subBins
     ∷ []
 
@@ -129,20 +127,9 @@ Meets c o = Plans (c .periods) (c .lengths) (c .starts) (c .fills) o
 abbrev pub Settled : Claim → Type 0
 Settled c = ((o : Outcome) → Meets c o → (o .answer ≡ c .answer) × (o .fills ≡ c .filled)) × (Meets c (c .wrong) → ⊥)
 
-abbrev pub Each : (Claim → Type 0) → List Claim → Type 0
-Each P [] = Unit {0}
-Each P (c ∷ cs) = P c × Each P cs
-
 -- each outcome that meets the promise is the one that is computed
 is-planned : (Ts ps ss fs : List ℕ) (o : Outcome) → Plans Ts ps ss fs o → o ≡ planned Ts ps ss fs
-unfolding Plans
-is-planned Ts ps ss fs o p =
-    first-unique (planLines Ts ps ss fs) (refusedPlan Ts ps ss fs) (λ r. r ≡ placed Ts ps ss fs) (λ a b e f. e ∙ sym f) o (planned Ts ps ss fs) p (planned-meets Ts ps ss fs)
-
--- x of a start of the plan, whatever slot it has
-start-x : (Ts : List ℕ) (T x y : ℕ) → startOf Ts T x y % shortest Ts ≡ x % shortest Ts
-unfolding startOf
-start-x Ts T x y = add-mul-mod-self-left x (shortest Ts) _
+is-planned Ts ps ss fs o p = plan-unique Ts ps ss fs o (planned Ts ps ss fs) p (planned-meets Ts ps ss fs)
 
 -- what is seen of a claim: the computed answer and fills, and a number m of the outcome that the wrong one has not
 module _ (c : Claim) where
@@ -156,7 +143,7 @@ module _ (c : Claim) where
   )
 
   settled : plan-of .answer ≡ c .answer → plan-of .fills ≡ c .filled → (see : Outcome → ℕ) (m : ℕ) → see plan-of ≡ m → eqb (see (c .wrong)) m ≡ false → Settled c
-  settled a f see m e n = settled-by a f (λ w. true-or-false (eqb (see (c .wrong)) m) (eq-eqb _ _ (ap see w ∙ e)) n)
+  settled a f see m e n = settled-by a f (differs see plan-of (c .wrong) m e n)
 
 abbrev number : Outcome → ℕ
 number o = o .answer .number
@@ -188,64 +175,28 @@ sub-bins-meet e =
 
 pub plan-shuts-out : Each Settled claims
 unfolding anyBelow lowest lowestFrom firstOf leastOf greatestOf shortest longest rows height widths divides chained badPeriod badLength unchained findings before insert orderBelow order raised fits bins lowestBin marked binOf startIn fitted planFindings placed planned
-plan-shuts-out = (
-  settled _ refl refl number 0 refl refl,
-  (
-    settled _ refl refl (λ o. start 0 o % 10) 0 (start-x (10 ∷ 20 ∷ 20 ∷ 60 ∷ 60 ∷ []) 10 0 0) refl,
-    (
-      settled _ refl refl (fill 0) 10 refl refl,
-      (
-        settled _ refl refl (fill 0) 10 refl refl,
-        (
-          settled _ refl refl number 0 refl refl,
-          (
-            settled _ refl refl (λ o. start 1 o % 8) 2 (start-x (8 ∷ 16 ∷ 16 ∷ 32 ∷ 32 ∷ 32 ∷ 32 ∷ []) 16 2 0) refl,
-            (
-              settled _ refl refl (fill 5) 7 refl refl,
-              (
-                settled _ refl refl (fill 0) 6 refl refl,
-                (
-                  settled _ refl refl (fill 0) 6 refl refl,
-                  (
-                    settled _ refl refl (fill 0) 6 refl refl,
-                    (
-                      settled _ refl refl (start 1) mark refl refl,
-                      (
-                        settled _ refl refl index 1 refl refl,
-                        (
-                          settled _ refl refl number 0 refl refl,
-                          (
-                            settled _ refl refl (start 2) 7777 refl refl,
-                            (
-                              settled _ refl refl (fill 1) 7777 refl refl,
-                              (
-                                settled _ refl refl (λ o. start 0 o % 10) 0 (start-x (10 ∷ 10 ∷ []) 10 0 0) refl,
-                                (
-                                  settled _ refl refl index 0 refl refl,
-                                  (
-                                    settled _ refl refl number 7 refl refl,
-                                    (
-                                      settled _ refl refl (fill 0) 7777 refl refl,
-                                      (settled-by _ refl refl sub-bins-meet, tt),
-                                    ),
-                                  ),
-                                ),
-                              ),
-                            ),
-                          ),
-                        ),
-                      ),
-                    ),
-                  ),
-                ),
-              ),
-            ),
-          ),
-        ),
-      ),
-    ),
-  ),
-)
+plan-shuts-out =
+    settled _ refl refl number 0 refl refl
+    also settled _ refl refl (λ o. start 0 o % 10) 0 (start-x (10 ∷ 20 ∷ 20 ∷ 60 ∷ 60 ∷ []) 10 0 0) refl
+    also settled _ refl refl (fill 0) 10 refl refl
+    also settled _ refl refl (fill 0) 10 refl refl
+    also settled _ refl refl number 0 refl refl
+    also settled _ refl refl (λ o. start 1 o % 8) 2 (start-x (8 ∷ 16 ∷ 16 ∷ 32 ∷ 32 ∷ 32 ∷ 32 ∷ []) 16 2 0) refl
+    also settled _ refl refl (fill 5) 7 refl refl
+    also settled _ refl refl (fill 0) 6 refl refl
+    also settled _ refl refl (fill 0) 6 refl refl
+    also settled _ refl refl (fill 0) 6 refl refl
+    also settled _ refl refl (start 1) mark refl refl
+    also settled _ refl refl index 1 refl refl
+    also settled _ refl refl number 0 refl refl
+    also settled _ refl refl (start 2) 7777 refl refl
+    also settled _ refl refl (fill 1) 7777 refl refl
+    also settled _ refl refl (λ o. start 0 o % 10) 0 (start-x (10 ∷ 10 ∷ []) 10 0 0) refl
+    also settled _ refl refl index 0 refl refl
+    also settled _ refl refl number 7 refl refl
+    also settled _ refl refl (fill 0) 7777 refl refl
+    also settled-by _ refl refl sub-bins-meet
+    also tt
 
 -- no outcome serves all tables
 pub plan-not-one : (o : Outcome) → ((Ts ps ss fs : List ℕ) → Plans Ts ps ss fs o) → ⊥
