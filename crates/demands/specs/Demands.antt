@@ -6,6 +6,8 @@
 --     demand-three              In a list that passes each probe has its share of the wire, and has it alone; where there is room every probe gets a place.
 -- Words: Ts ps ss are periods, lengths and starts; n is length Ts; a probe is its place i; what is said of a call is said of every result o that meets its promise.
 --     Validates, ToCorners, ToStarts, Plans, Checks, Holder, NextFrom, Reads, Writes     the promises of the nine calls      (table, packing, checker, timetable, book)
+--     Exports, PlanPrints, CheckPrints     those of the three exports, and of the two pages                                  (masters, pages)
+--     ToldOf q bs out o         o shows what the book bs answers to the question q: the refusal of the reading rules, or of the list, or the answer                (masters/Exports)
 --     First ls refuse Rest o    o is the refusal of the first of the lines that applies, at its lowest place; where none does, Rest holds of o                   (lists/Refusals)
 --     lines, cornerLines, ..    the lines of 01's table that a call asks, each number with its exact condition                                                   (table/Table, ..)
 --     numbers ls                the numbers of the lines, in order; perBlock k has those of a book of k blocks
@@ -62,6 +64,13 @@ use Rattle.book.specs.Writing.{pages, writeLines, doneWrite, Writes, writeOf}
 use Rattle.book.specs.ReadLaws.{read-meets}
 use Rattle.book.specs.WriteLaws.{write-meets}
 use Rattle.book.proofs.Promises.{read-unique, read-numbers, write-unique, write-numbers}
+use Rattle.replies.specs.declared.Question.the-variants.{IsClean, HolderAt, StartFrom}
+use Rattle.masters.specs.Exports.{given, exportLines, ToldOf, Exports, exportOf}
+use Rattle.masters.proofs.Promises.{export-unique, export-total, check-export-numbers, holder-export-numbers, next-start-export-numbers}
+use Rattle.lines.specs.Laws.{mostCheck}
+use Rattle.pages.specs.Printed.{planPage, checkPage}
+use Rattle.pages.specs.Paper.{mostPlan, paper, paperLines, donePaper, Prints, printOf, PlanPrints, CheckPrints}
+use Rattle.pages.proofs.Promises.{print-unique, print-numbers, print-total}
 use Rattle.demands.specs.Meeting.{Published, clean-published, answer-clean}
 use Rattle.demands.specs.Planning.{plan-fills, plan-follows, plan-ended}
 use Rattle.demands.specs.PlanPasses.{plan-passes}
@@ -107,12 +116,29 @@ pub record DemandOne : Type 0 where
   pub write : (Ts ps ss out : List ℕ)
       → Determined (Writes firstEdition Ts ps ss out) (λ o. o .answer .number) (writeLines firstEdition Ts ps ss out) (λ k i. pages (refused k i) out)
       (λ o. o ≡ doneWrite firstEdition Ts ps ss out) (1 ∷ 2 ∷ 7 ∷ []) (0 ∷ 1 ∷ 2 ∷ 7 ∷ [])
+  -- the exports: where 7 does not apply, the bytes show what the book answers, refusals included
+  pub line-check : (bs out : List ℕ)
+      → Determined (Exports IsClean bs out) (λ o. o .number) (exportLines IsClean bs out) (λ k i. given k out) (ToldOf IsClean bs out)
+      (7 ∷ []) (7 ∷ 20 ∷ 21 ∷ 22 ∷ 23 ∷ 3 ∷ 4 ∷ 5 ∷ 6 ∷ 9 ∷ 0 ∷ 10 ∷ [])
+  pub line-holder : (bs out : List ℕ) (t : ℕ)
+      → Determined (Exports (HolderAt t) bs out) (λ o. o .number) (exportLines (HolderAt t) bs out) (λ k i. given k out) (ToldOf (HolderAt t) bs out)
+      (7 ∷ []) (7 ∷ 20 ∷ 21 ∷ 22 ∷ 23 ∷ 3 ∷ 4 ∷ 5 ∷ 6 ∷ 9 ∷ 11 ∷ 0 ∷ [])
+  pub line-next-start : (bs out : List ℕ) (t : ℕ)
+      → Determined (Exports (StartFrom t) bs out) (λ o. o .number) (exportLines (StartFrom t) bs out) (λ k i. given k out) (ToldOf (StartFrom t) bs out)
+      (7 ∷ []) (7 ∷ 20 ∷ 21 ∷ 22 ∷ 23 ∷ 3 ∷ 4 ∷ 5 ∷ 6 ∷ 9 ∷ 11 ∷ 0 ∷ [])
+  -- what the programs print, put into lent bytes
+  pub plan-page : (bs out : List ℕ)
+      → Determined (PlanPrints bs out) (λ o. o .answer .number) (paperLines mostPlan (planPage bs) out) (λ k i. paper (refused k i) out) (λ o. o ≡ donePaper mostPlan (planPage bs) out)
+      (7 ∷ []) (0 ∷ 7 ∷ [])
+  pub check-page : (bs out : List ℕ)
+      → Determined (CheckPrints bs out) (λ o. o .answer .number) (paperLines mostCheck (checkPage bs) out) (λ k i. paper (refused k i) out) (λ o. o ≡ donePaper mostCheck (checkPage bs) out)
+      (7 ∷ []) (0 ∷ 7 ∷ [])
 
 itself : {A : Type 0} → A ↔ A
 itself = (λ p. p, λ p. p)
 
 pub demand-one : DemandOne
-unfolding Validates ToCorners ToStarts Plans Checks Holder NextFrom Reads Writes
+unfolding Validates ToCorners ToStarts Plans Checks Holder NextFrom Reads Writes Exports Prints
 demand-one = record {
   validate = λ Ts ps.
       record { some = (verdict Ts ps, verdict-meets Ts ps); one = validate-unique Ts ps; first = λ o. itself; asked = refl; listed = validate-numbers Ts ps };
@@ -132,6 +158,16 @@ demand-one = record {
       record { some = (readOf firstEdition bs Ts ps ss, read-meets firstEdition bs Ts ps ss); one = read-unique firstEdition bs Ts ps ss; first = λ o. itself; asked = ap (λ (l : List ℕ). 20 ∷ l) (read-order bs Ts ps ss); listed = read-numbers firstEdition bs Ts ps ss };
   write = λ Ts ps ss out.
       record { some = (writeOf firstEdition Ts ps ss out, write-meets firstEdition Ts ps ss out); one = write-unique firstEdition Ts ps ss out; first = λ o. itself; asked = refl; listed = write-numbers firstEdition Ts ps ss out };
+  line-check = λ bs out.
+      record { some = (exportOf IsClean bs out, export-total IsClean bs out); one = export-unique IsClean bs out; first = λ o. itself; asked = refl; listed = check-export-numbers bs out };
+  line-holder = λ bs out t.
+      record { some = (exportOf (HolderAt t) bs out, export-total (HolderAt t) bs out); one = export-unique (HolderAt t) bs out; first = λ o. itself; asked = refl; listed = λ o. holder-export-numbers bs out o t };
+  line-next-start = λ bs out t.
+      record { some = (exportOf (StartFrom t) bs out, export-total (StartFrom t) bs out); one = export-unique (StartFrom t) bs out; first = λ o. itself; asked = refl; listed = λ o. next-start-export-numbers bs out o t };
+  plan-page = λ bs out.
+      record { some = (printOf mostPlan (planPage bs) out, print-total mostPlan (planPage bs) out); one = print-unique mostPlan (planPage bs) out; first = λ o. itself; asked = refl; listed = print-numbers mostPlan (planPage bs) out };
+  check-page = λ bs out.
+      record { some = (printOf mostCheck (checkPage bs) out, print-total mostCheck (checkPage bs) out); one = print-unique mostCheck (checkPage bs) out; first = λ o. itself; asked = refl; listed = print-numbers mostCheck (checkPage bs) out };
 }
 
 -- DEMAND 2, planning: the starts and the first H fills are what first fit over empty rows gives, and nothing else is; it ends with 0, or with 8 where first fit stops; the starts of 0

@@ -9,7 +9,7 @@ use mathlib.Core.Path.{_≡_, refl, sym, ap, _∙_}
 use mathlib.Core.Logic.{_⊎_, inl, inr, ⊎-elim}
 use mathlib.Core.List.{List, [], _∷_, _++_}
 use Prim.Native.Nat.{ℕ, _≤_, _<_}
-use native.Mathlib.Decide.{decLt, ℕ-discrete}
+use native.Mathlib.Decide.{ℕ-discrete}
 use native.Mathlib.Omega.{arith}
 use lib.ListN.{length, take, drop}
 use Rattle.lists.specs.Pick.{In, in-left, in-right}
@@ -24,13 +24,13 @@ use Rattle.book.specs.Loading.{length-column}
 use Rattle.checker.specs.Check.{Judged, Checks}
 use Rattle.timetable.specs.Timetable.{askLines, HeldBy, Holder, NextStart, NextFrom}
 use Rattle.replies.specs.declared.Question.{Question}
-use Rattle.replies.specs.declared.Question.the-variants.{Clean, HolderAt, StartFrom}
+use Rattle.replies.specs.declared.Question.the-variants.{IsClean, HolderAt, StartFrom}
 use Rattle.replies.specs.Carrying.{Refused, first-split}
-use Rattle.replies.specs.Replies.{bookLines, periodsIn, lengthsIn, startsIn, Replies, Answers, replyOf}
+use Rattle.replies.specs.Replies.{bookLines, periodsIn, lengthsIn, startsIn, Replies, Answers}
 use Rattle.replies.specs.Opening.{book-numbers, silent-few, Opened, reads-refused, reads-opened}
-use Rattle.replies.specs.Asking.{answers-unique, reply-meets}
-use Rattle.masters.specs.Exports.{answerBytes, shown, Given, given, exportLines, refusedExport, ToldOf, Exports}
-use Rattle.masters.specs.Laws.{exports-short, exports-long}
+use Rattle.replies.specs.Asking.{answers-unique}
+use Rattle.masters.specs.Exports.{answerBytes, shown, Given, given, exportLines, refusedExport, ToldOf, Exports, exportOf}
+use Rattle.masters.specs.Laws.{exports-short, export-meets}
 use Rattle.masters.specs.Numbers.{list-numbers}
 
 module _ (q : Question) (bs out : List ℕ) where
@@ -41,12 +41,8 @@ module _ (q : Question) (bs out : List ℕ) where
   unfolding Exports
   export-unique = first-unique (exportLines q bs out) (refusedExport q bs out) (ToldOf q bs out) one-told
 
-  pub export-total : (o : Given) × Exports q bs out o
-  export-total = by (decLt (length out) answerBytes)
-    where
-      by : Dec (length out < answerBytes) → (o : Given) × Exports q bs out o
-      by (yes h) = (given 7 out, exports-short q bs out h)
-      by (no h) = (given (replyOf q bs .number) (shown (replyOf q bs) ++ drop answerBytes out), exports-long q bs out (omega arith) (replyOf q bs) (reply-meets q bs) _ refl _ refl)
+  pub export-total : Exports q bs out (exportOf q bs out)
+  export-total = export-meets q bs out
 
   pub export-short : (o : Given) → Exports q bs out o → length out < answerBytes → o ≡ given 7 out
   export-short o p h = export-unique o (given 7 out) p (exports-short q bs out h)
@@ -94,16 +90,16 @@ module _ (bs : List ℕ) (a : Answer) where
       in-left (a .number) (20 ∷ 21 ∷ 22 ∷ 23 ∷ []) xs
       (⊎-elim (book-numbers bs (a .number)) absurd (first-numbers (λ (r : Answer). r .number) (bookLines bs) refused (λ r. ⊥) (λ k i. refl) a p))
 
-  pub check-export-numbers : Answers Clean bs a → In (a .number) (20 ∷ 21 ∷ 22 ∷ 23 ∷ 3 ∷ 4 ∷ 5 ∷ 6 ∷ 9 ∷ 0 ∷ 10 ∷ [])
+  check-numbers : Answers IsClean bs a → In (a .number) (20 ∷ 21 ∷ 22 ∷ 23 ∷ 3 ∷ 4 ∷ 5 ∷ 6 ∷ 9 ∷ 0 ∷ 10 ∷ [])
   unfolding Answers Replies Checks Judged In
-  check-export-numbers p =
+  check-numbers p =
       ⊎-elim (refused-number (3 ∷ 4 ∷ 5 ∷ 6 ∷ 9 ∷ 0 ∷ 10 ∷ []))
       (λ (s, c). in-right (a .number) (20 ∷ 21 ∷ 22 ∷ 23 ∷ []) (3 ∷ 4 ∷ 5 ∷ 6 ∷ 9 ∷ 0 ∷ 10 ∷ [])
       (⊎-elim (in-left (a .number) (3 ∷ 4 ∷ 5 ∷ 6 ∷ 9 ∷ []) (0 ∷ 10 ∷ []))
       (⊎-elim (λ j. in-right (a .number) (3 ∷ 4 ∷ 5 ∷ 6 ∷ 9 ∷ []) (0 ∷ 10 ∷ []) (inl (rw (j .1) refl)))
       (λ m. in-right (a .number) (3 ∷ 4 ∷ 5 ∷ 6 ∷ 9 ∷ []) (0 ∷ 10 ∷ []) (inr (inl (rw (m .4) refl)))))
       (list-numbers (periodsIn bs) (lengthsIn bs) (startsIn bs) [] (Judged (periodsIn bs) (widths 0 (lengthsIn bs)) (startsIn bs)) a (same-lengths 0 1) (same-lengths 0 2) (few-periods s) c)))
-      (first-split (bookLines bs) refused (Replies Clean (periodsIn bs) (lengthsIn bs) (startsIn bs)) a p)
+      (first-split (bookLines bs) refused (Replies IsClean (periodsIn bs) (lengthsIn bs) (startsIn bs)) a p)
 
   -- of both questions about a tick
   asked-numbers : (t : ℕ) (Rest : Answer → Type 0) → (Rest a → a .number ≡ 0) → Silents (bookLines bs)
@@ -114,18 +110,34 @@ module _ (bs : List ℕ) (a : Answer) where
       (λ r. in-right (a .number) (3 ∷ 4 ∷ 5 ∷ 6 ∷ 9 ∷ 11 ∷ []) (0 ∷ []) (inl (zero-is r)))
       (list-numbers (periodsIn bs) (lengthsIn bs) (startsIn bs) (whole 11 (TooLate t) ∷ []) Rest a (same-lengths 0 1) (same-lengths 0 2) (few-periods s) c)
 
-  pub holder-export-numbers : (t : ℕ) → Answers (HolderAt t) bs a → In (a .number) (20 ∷ 21 ∷ 22 ∷ 23 ∷ 3 ∷ 4 ∷ 5 ∷ 6 ∷ 9 ∷ 11 ∷ 0 ∷ [])
+  holder-numbers : (t : ℕ) → Answers (HolderAt t) bs a → In (a .number) (20 ∷ 21 ∷ 22 ∷ 23 ∷ 3 ∷ 4 ∷ 5 ∷ 6 ∷ 9 ∷ 11 ∷ 0 ∷ [])
   unfolding Answers Replies Holder HeldBy
-  holder-export-numbers t p =
+  holder-numbers t p =
       ⊎-elim (refused-number (3 ∷ 4 ∷ 5 ∷ 6 ∷ 9 ∷ 11 ∷ 0 ∷ []))
       (λ (s, c). in-right (a .number) (20 ∷ 21 ∷ 22 ∷ 23 ∷ []) (3 ∷ 4 ∷ 5 ∷ 6 ∷ 9 ∷ 11 ∷ 0 ∷ [])
       (asked-numbers t (HeldBy (periodsIn bs) (widths 0 (lengthsIn bs)) (startsIn bs) t) (λ h. ap (λ (r : Answer). r .number) (h .2)) s c))
       (first-split (bookLines bs) refused (Replies (HolderAt t) (periodsIn bs) (lengthsIn bs) (startsIn bs)) a p)
 
-  pub next-start-export-numbers : (t : ℕ) → Answers (StartFrom t) bs a → In (a .number) (20 ∷ 21 ∷ 22 ∷ 23 ∷ 3 ∷ 4 ∷ 5 ∷ 6 ∷ 9 ∷ 11 ∷ 0 ∷ [])
+  next-start-numbers : (t : ℕ) → Answers (StartFrom t) bs a → In (a .number) (20 ∷ 21 ∷ 22 ∷ 23 ∷ 3 ∷ 4 ∷ 5 ∷ 6 ∷ 9 ∷ 11 ∷ 0 ∷ [])
   unfolding Answers Replies NextFrom NextStart
-  next-start-export-numbers t p =
+  next-start-numbers t p =
       ⊎-elim (refused-number (3 ∷ 4 ∷ 5 ∷ 6 ∷ 9 ∷ 11 ∷ 0 ∷ []))
       (λ (s, c). in-right (a .number) (20 ∷ 21 ∷ 22 ∷ 23 ∷ []) (3 ∷ 4 ∷ 5 ∷ 6 ∷ 9 ∷ 11 ∷ 0 ∷ [])
       (asked-numbers t (NextStart (periodsIn bs) (startsIn bs) t) (⊎-elim (λ h. ap (λ (r : Answer). r .number) (h .1)) (λ h. ap (λ (r : Answer). r .number) (h .3))) s c))
       (first-split (bookLines bs) refused (Replies (StartFrom t) (periodsIn bs) (lengthsIn bs) (startsIn bs)) a p)
+
+-- the number that comes back is 7, or the number of the book's answer
+export-number : (q : Question) (bs out : List ℕ) (ns : List ℕ) → ((a : Answer) → Answers q bs a → In (a .number) ns) → (o : Given) → Exports q bs out o → In (o .number) (7 ∷ ns)
+unfolding Exports First In
+export-number q bs out ns each o (inl (i, at, e)) = inl (ap (λ (g : Given). g .number) e)
+export-number q bs out ns each o (inr (s, (a, p, e))) = inr (rw (ap (λ (g : Given). g .number) e) (each a p))
+
+module _ (bs out : List ℕ) (o : Given) where
+  pub check-export-numbers : Exports IsClean bs out o → In (o .number) (7 ∷ 20 ∷ 21 ∷ 22 ∷ 23 ∷ 3 ∷ 4 ∷ 5 ∷ 6 ∷ 9 ∷ 0 ∷ 10 ∷ [])
+  check-export-numbers = export-number IsClean bs out (20 ∷ 21 ∷ 22 ∷ 23 ∷ 3 ∷ 4 ∷ 5 ∷ 6 ∷ 9 ∷ 0 ∷ 10 ∷ []) (check-numbers bs) o
+
+  pub holder-export-numbers : (t : ℕ) → Exports (HolderAt t) bs out o → In (o .number) (7 ∷ 20 ∷ 21 ∷ 22 ∷ 23 ∷ 3 ∷ 4 ∷ 5 ∷ 6 ∷ 9 ∷ 11 ∷ 0 ∷ [])
+  holder-export-numbers t = export-number (HolderAt t) bs out (20 ∷ 21 ∷ 22 ∷ 23 ∷ 3 ∷ 4 ∷ 5 ∷ 6 ∷ 9 ∷ 11 ∷ 0 ∷ []) (λ a. holder-numbers bs a t) o
+
+  pub next-start-export-numbers : (t : ℕ) → Exports (StartFrom t) bs out o → In (o .number) (7 ∷ 20 ∷ 21 ∷ 22 ∷ 23 ∷ 3 ∷ 4 ∷ 5 ∷ 6 ∷ 9 ∷ 11 ∷ 0 ∷ [])
+  next-start-export-numbers t = export-number (StartFrom t) bs out (20 ∷ 21 ∷ 22 ∷ 23 ∷ 3 ∷ 4 ∷ 5 ∷ 6 ∷ 9 ∷ 11 ∷ 0 ∷ []) (λ a. next-start-numbers bs a t) o

@@ -4,18 +4,21 @@
 --     answerBytes               20
 --     shown a                   the 20 bytes of an answer
 --     Given                     the number that comes back, and the lent bytes afterwards
+--     exportOf q bs out         what an export gives, computed
 --     Exports q bs out o        the promise of an export that asks question q of the book bs and is lent the bytes out   (believe this)
 -- Edges: the reading's n does not show; 7 has no bytes to stand in.
 -- Assumes nothing.
 use mathlib.Core.Path.{_≡_}
 use mathlib.Core.List.{List, [], _∷_, _++_}
 use Prim.Native.Nat.{ℕ, _<_}
+use lib.Dec.{ltb}
 use lib.ListN.{length, drop}
+use Rattle.lists.specs.Pick.{pick}
 use Rattle.lists.specs.Refusals.{Line, whole, First}
 use Rattle.words.specs.declared.Answer.{Answer}
 use Rattle.sheets.specs.Bytes.{bytes}
 use Rattle.replies.specs.declared.Question.{Question}
-use Rattle.replies.specs.Replies.{Answers}
+use Rattle.replies.specs.Replies.{Answers, replyOf}
 
 abbrev pub answerBytes : ℕ
 answerBytes = 20
@@ -43,3 +46,7 @@ module _ (q : Question) (bs out : List ℕ) where
 
   unfoldable pub Exports : Given → Type 0
   Exports o = First exportLines refusedExport ToldOf o
+
+  -- the same, computed
+  unfoldable pub exportOf : Given
+  exportOf = pick (ltb (length out) answerBytes) (given 7 out) (given (replyOf q bs .number) (shown (replyOf q bs) ++ drop answerBytes out))

@@ -2,23 +2,28 @@
 --     tick-halves           eight bytes of a tick are four of its lower half and four of its upper
 --     told                  the five stores of an answer
 --     exports-short, -long  the two ways out
+--     export-meets          what is computed meets the promise
 -- Assumes nothing.
 use mathlib.Core.Path.{_≡_, refl, sym, ap, _∙_}
 use mathlib.Core.Logic.{inl, inr}
+use mathlib.Core.Bool.{Bool, true, false}
 use mathlib.Core.List.{List, [], _∷_, _++_}
 use Prim.Native.Nat.{ℕ, zero, suc, _+_, _/_, _%_, _≤_, _<_}
 use native.Mathlib.Omega.{arith}
+use lib.Dec.{ltb}
 use lib.ListN.{length, drop}
 use lib.Seq.{sets, sets-eq}
-use Rattle.lists.specs.Lowest.{Lowest}
+use borrow.Author.Tests.{ltb-true, ltb-false}
+use Rattle.lists.specs.Pick.{pick}
 use Rattle.lists.specs.Refusals.{First}
 use Rattle.words.specs.declared.Answer.{Answer}
 use Rattle.sheets.specs.Bytes.{bytes, value}
 use Rattle.sheets.specs.ByteLaws.{bytes-value}
 use Rattle.sheets.specs.Pieces.{bytes-are}
 use Rattle.replies.specs.declared.Question.{Question}
-use Rattle.replies.specs.Replies.{Answers}
-use Rattle.masters.specs.Exports.{answerBytes, shown, given, Exports}
+use Rattle.replies.specs.Replies.{Answers, replyOf}
+use Rattle.replies.specs.Asking.{reply-meets}
+use Rattle.masters.specs.Exports.{answerBytes, shown, given, Exports, exportOf}
 
 low-value : (t : ℕ) → value (bytes 4 t) ≡ t % 4294967296
 unfolding bytes value
@@ -50,3 +55,11 @@ module _ (q : Question) (bs out : List ℕ) where
   pub exports-long : answerBytes ≤ length out → (a : Answer) → Answers q bs a → (r : ℕ) → r ≡ a .number → (l : List ℕ) → l ≡ shown a ++ drop answerBytes out → Exports q bs out (given r l)
   unfolding Exports First
   exports-long h a p r e l f = inr (λ i k w. absurd (omega arith), (a, p, rw (e, f)))
+
+  pub export-meets : Exports q bs out (exportOf q bs out)
+  unfolding exportOf
+  export-meets = by (ltb (length out) answerBytes) refl
+    where
+      by : (b : Bool) → ltb (length out) answerBytes ≡ b → Exports q bs out (pick b (given 7 out) (given (replyOf q bs .number) (shown (replyOf q bs) ++ drop answerBytes out)))
+      by true e = exports-short (ltb-true (length out) answerBytes e)
+      by false e = exports-long (ltb-false (length out) answerBytes e) (replyOf q bs) (reply-meets q bs) _ refl _ refl

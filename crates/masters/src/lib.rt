@@ -3,7 +3,7 @@ ghost use mathlib.Core.Path.{_≡_};
 ghost use mathlib.Core.List.{_++_};
 ghost use Prim.Native.Nat.{_≤_};
 ghost use lib.ListN.{length, drop};
-ghost use Rattle.replies.specs.declared.Question.the-variants.{Clean, HolderAt, StartFrom};
+ghost use Rattle.replies.specs.declared.Question.the-variants.{IsClean, HolderAt, StartFrom};
 ghost use Rattle.masters.specs.Exports.{answerBytes, shown, given, Exports};
 use replies::Question;
 use words::Answer;
@@ -41,12 +41,12 @@ fn tell(said: Answer, answer: &mut [u8]) -> u32
 // Whether the book's list is clean.
 #[no_mangle]
 pub extern "C" fn line_check(book: &[u8], answer: &mut [u8]) -> u32
-    ensures { λ r. ⌜ Exports Clean (now (book .entry)) (now (answer .entry)) (given r (now (answer .exit))) ⌝ }
+    ensures { λ r. ⌜ Exports IsClean (now (book .entry)) (now (answer .entry)) (given r (now (answer .exit))) ⌝ }
 {
     if answer.len() < Told::BYTES {
         return 7;
     }
-    tell(replies::reply(book, Question::Clean), answer)
+    tell(replies::reply(book, Question::IsClean), answer)
 }
 
 // Who holds the tick.

@@ -5,7 +5,8 @@
 --     plan-refused, plan-lines  the two texts of a planned table
 --     page-refused, page-planned    the two pages of a book
 --     check-page-is             the page of an answer of the book
---     prints-short, prints-done     the two ways out
+--     prints-short, prints-whole    the two results
+--     prints-done               a page that was put is the whole page
 --     prints-within             the page's end lies within the lent bytes
 -- Assumes nothing.
 use mathlib.Core.Path.{_≡_, refl, sym, ap, _∙_}
@@ -35,13 +36,13 @@ use Rattle.sheets.specs.Layout.{firstEdition, mostN}
 use Rattle.book.specs.Reading.{Columns, columns, Reads}
 use Rattle.book.specs.ReadLaws.{read-meets}
 use Rattle.book.proofs.Promises.{read-unique}
-use Rattle.replies.specs.declared.Question.the-variants.{Clean}
+use Rattle.replies.specs.declared.Question.the-variants.{IsClean}
 use Rattle.replies.specs.Replies.{periodsIn, lengthsIn, Answers, readIn, replyOf}
 use Rattle.replies.specs.Asking.{opened-periods, opened-lengths, answers-unique, reply-meets}
 use Rattle.text.specs.Putting.{Put, put-page}
 use Rattle.lines.specs.Lines.{answerLine, checkLine, headLine, probeLines}
 use Rattle.pages.specs.Printed.{ran, planText, plannedIn, planPage, checkPage}
-use Rattle.pages.specs.Paper.{Paper, paper, Prints}
+use Rattle.pages.specs.Paper.{Paper, paper, donePaper, Prints}
 
 pub ran-true : (k : ℕ) → ran k ≡ true → (k ≡ 0) ⊎ (k ≡ 8)
 unfolding ran
@@ -85,14 +86,18 @@ module _ (bs : List ℕ) (a : Answer) (Ts ps ss : List ℕ) (r : Reads firstEdit
   unfolding planPage
   page-planned z = rw (answer-is, eq-eqb _ _ z, opened-periods bs a Ts ps ss r z, opened-lengths bs a Ts ps ss r z)
 
-pub check-page-is : (bs : List ℕ) (a : Answer) → Answers Clean bs a → checkLine a ≡ checkPage bs
+pub check-page-is : (bs : List ℕ) (a : Answer) → Answers IsClean bs a → checkLine a ≡ checkPage bs
 unfolding checkPage
-check-page-is bs a p = ap checkLine (answers-unique Clean bs a (replyOf Clean bs) p (reply-meets Clean bs))
+check-page-is bs a p = ap checkLine (answers-unique IsClean bs a (replyOf IsClean bs) p (reply-meets IsClean bs))
 
 module _ (room : ℕ) (page out : List ℕ) where
   pub prints-short : length out < room → Prints room page out (paper (refused 7 0) out)
   unfolding Prints First
   prints-short h = inl (0, (omega arith, record { within = omega arith; passed = λ i k. absurd (omega arith); found = λ k. h }), refl)
+
+  pub prints-whole : room ≤ length out → Prints room page out (donePaper room page out)
+  unfolding Prints First
+  prints-whole long = inr (λ i k w. absurd (omega arith), refl)
 
   pub prints-done : (text : List ℕ) → text ≡ page → room ≤ length out → (to : ℕ) (new : List ℕ) → Put out 0 text to new → to ≤ room → Prints room page out (paper (refused 0 to) new)
   unfolding Prints First

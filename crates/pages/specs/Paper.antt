@@ -2,13 +2,16 @@
 --     mostPlan, mostCheck   room for the longest page: 257 lines of 44 bytes, or one of 54
 --     mostInput             3,585: as much of its input a program reads at most
 --     Paper                 the answer, and the lent bytes afterwards
+--     printOf room page out     what is left in the lent bytes, computed
 --     PlanPrints bs out o   the promise of `plan_page`: done with the page's length as its index
 --     CheckPrints bs out o  the promise of `check_page`
 -- Assumes nothing.
 use mathlib.Core.Path.{_≡_}
 use mathlib.Core.List.{List, [], _∷_, _++_}
 use Prim.Native.Nat.{ℕ, suc, _*_, _<_}
+use lib.Dec.{ltb}
 use lib.ListN.{length, drop}
+use Rattle.lists.specs.Pick.{pick}
 use Rattle.lists.specs.Refusals.{Line, whole, First}
 use Rattle.words.specs.declared.Answer.{Answer}
 use Rattle.words.specs.Answers.{refused}
@@ -42,6 +45,10 @@ module _ (room : ℕ) (page out : List ℕ) where
 
   unfoldable pub Prints : Paper → Type 0
   Prints o = First paperLines refusedPaper (λ r. r ≡ donePaper) o
+
+  -- the same, computed
+  unfoldable pub printOf : Paper
+  printOf = pick (ltb (length out) room) (refusedPaper 7 0) donePaper
 
 abbrev pub PlanPrints : List ℕ → List ℕ → Paper → Type 0
 PlanPrints bs out o = Prints mostPlan (planPage bs) out o

@@ -14,7 +14,7 @@ use lib.ListN.{length, replicate}
 use Rattle.lists.specs.Pick.{pick, either}
 use Rattle.table.specs.Table.{mostProbes, mostRows, rows}
 use Rattle.stack.specs.FirstFit.{Outcome, planned}
-use Rattle.replies.specs.declared.Question.the-variants.{Clean}
+use Rattle.replies.specs.declared.Question.the-variants.{IsClean}
 use Rattle.replies.specs.Replies.{periodsIn, lengthsIn, readIn, replyOf}
 use Rattle.lines.specs.Lines.{answerLine, checkLine, headLine, probeLines}
 
@@ -34,4 +34,4 @@ planPage bs =
     pick (eqb (readIn bs .answer .number) 0) (planText (periodsIn bs) (lengthsIn bs) (plannedIn (periodsIn bs) (lengthsIn bs))) (answerLine (readIn bs .answer))
 
 unfoldable pub checkPage : List ℕ → List ℕ
-checkPage bs = checkLine (replyOf Clean bs)
+checkPage bs = checkLine (replyOf IsClean bs)

@@ -93,6 +93,6 @@ pub fn check_page(book: &[u8], out: &mut [u8]) -> Answer
     if out.len() < Printed::CHECK {
         return Answer::refused(7, 0);
     }
-    let size = lines::put_check(out, replies::reply(book, Question::Clean));
+    let size = lines::put_check(out, replies::reply(book, Question::IsClean));
     Answer::refused(0, size as u32)
 }

@@ -26,7 +26,7 @@ use Rattle.timetable.specs.HolderLaws.{holder-meets}
 use Rattle.timetable.specs.NextLaws.{next-meets}
 use Rattle.timetable.proofs.Promises.{holder-unique, next-start-unique}
 use Rattle.replies.specs.declared.Question.{Question}
-use Rattle.replies.specs.declared.Question.the-variants.{Clean, HolderAt, StartFrom}
+use Rattle.replies.specs.declared.Question.the-variants.{IsClean, HolderAt, StartFrom}
 use Rattle.replies.specs.Replies.{bookLines, periodsIn, lengthsIn, startsIn, Replies, Answers, repliesOf, readIn, replyOf}
 use Rattle.replies.specs.Opening.{Opened, reads-refused, reads-opened}
 
@@ -79,13 +79,13 @@ module _ (bs : List ℕ) (a : Answer) (Ts ps ss : List ℕ) (r : Reads firstEdit
 -- what is computed meets the promise
 pub replies-meet : (q : Question) (Ts ps ss : List ℕ) → Replies q Ts ps ss (repliesOf q Ts ps ss)
 unfolding Replies repliesOf
-replies-meet Clean Ts ps ss = checked-meets Ts ps ss
+replies-meet IsClean Ts ps ss = checked-meets Ts ps ss
 replies-meet (HolderAt t) Ts ps ss = holder-meets Ts ps ss t
 replies-meet (StartFrom t) Ts ps ss = next-meets Ts ps ss t
 
 pub replies-unique : (q : Question) (Ts ps ss : List ℕ) (a b : Answer) → Replies q Ts ps ss a → Replies q Ts ps ss b → a ≡ b
 unfolding Replies
-replies-unique Clean Ts ps ss = check-unique Ts ps ss
+replies-unique IsClean Ts ps ss = check-unique Ts ps ss
 replies-unique (HolderAt t) Ts ps ss = holder-unique Ts ps ss t
 replies-unique (StartFrom t) Ts ps ss = next-start-unique Ts ps ss t
 

@@ -20,7 +20,7 @@ use Rattle.book.specs.Reading.{BadSize, blocksIn, nOf, blockLines, column, Colu
 use Rattle.checker.specs.Check.{Checks, checked}
 use Rattle.timetable.specs.Timetable.{Holder, holderAnswer, NextFrom, nextAnswer}
 use Rattle.replies.specs.declared.Question.{Question}
-use Rattle.replies.specs.declared.Question.the-variants.{Clean, HolderAt, StartFrom}
+use Rattle.replies.specs.declared.Question.the-variants.{IsClean, HolderAt, StartFrom}
 
 abbrev pub bookLines : List ℕ → List Line
 bookLines bs = whole 20 (BadSize firstEdition bs) ∷ blockLines firstEdition bs 0 (blocksIn bs)
@@ -35,7 +35,7 @@ abbrev pub startsIn : List ℕ → List ℕ
 startsIn bs = column firstEdition bs 2 0 (nOf bs)
 
 unfoldable pub Replies : Question → List ℕ → List ℕ → List ℕ → Answer → Type 0
-Replies Clean Ts ps ss a = Checks Ts ps ss a
+Replies IsClean Ts ps ss a = Checks Ts ps ss a
 Replies (HolderAt t) Ts ps ss a = Holder Ts ps ss t a
 Replies (StartFrom t) Ts ps ss a = NextFrom Ts ps ss t a
 
@@ -43,7 +43,7 @@ unfoldable pub Answers : Question → List ℕ → Answer → Type 0
 Answers q bs a = First (bookLines bs) refused (Replies q (periodsIn bs) (lengthsIn bs) (startsIn bs)) a
 
 unfoldable pub repliesOf : Question → List ℕ → List ℕ → List ℕ → Answer
-repliesOf Clean Ts ps ss = checked Ts ps ss
+repliesOf IsClean Ts ps ss = checked Ts ps ss
 repliesOf (HolderAt t) Ts ps ss = holderAnswer Ts ps ss t
 repliesOf (StartFrom t) Ts ps ss = nextAnswer Ts ps ss t
 

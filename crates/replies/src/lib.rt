@@ -5,7 +5,7 @@ use words::Answer;
 
 // What may be asked of a book: whether its list is clean, who holds a tick, the next start from a tick on.
 pub enum Question {
-    Clean,
+    IsClean,
     HolderAt(u64),
     StartFrom(u64),
 }
@@ -15,7 +15,7 @@ fn ask(question: Question, periods: &[u32], lengths: &[u32], starts: &[u32]) -> 
     ensures { λ r. ⌜ Replies question (now (periods .entry)) (now (lengths .entry)) (now (starts .entry)) r ⌝ }
 {
     match question {
-        Question::Clean => checker::check(periods, lengths, starts),
+        Question::IsClean => checker::check(periods, lengths, starts),
         Question::HolderAt(tick) => {
             let held = timetable::holder(periods, lengths, starts, tick);
             held.answer

@@ -9,3 +9,5 @@ pub mod Timetable
 pub mod Read
 pub mod Write
 pub mod Programs
+pub mod Exports
+pub mod Pages
