@@ -35,7 +35,7 @@ fn corners_judged(
     if ys.len() < n {
         return Answer::refused(7, 0);
     }
-    let i = table::late(periods, starts);
+    let i = columns::late(periods, starts);
     if i < n {
         return table::at_place(9, i);
     }

@@ -25,8 +25,8 @@ use Rattle.words.specs.declared.Answer.{Answer}
 use Rattle.words.specs.Answers.{refused, done, mark}
 use Rattle.table.specs.Table.{mostProbes, mostPeriod, mostRows, shortest, rows, BadPeriod, BadLength, Unchained, Differ, lines, Sound, Late, lateLine, Below}
 use Rattle.table.specs.Verdict.{badPeriod, badLength, unchained, late, findings, verdict, Validates}
-use Rattle.table.specs.Seen.{Chained, chained-tells, unchained-tells}
-use Rattle.table.specs.Steps.{bad-period-tells, bad-length-tells, late-tells}
+use Rattle.chained.specs.Seen.{Chained, chained-tells, unchained-tells}
+use Rattle.columns.specs.Steps.{bad-period-tells, bad-length-tells, late-tells}
 
 finds-line : (k n : ℕ) (P : ℕ → Type 0) (i : ℕ) → Lowest P n i → Finds (line k n P) (found k n i)
 finds-line k n P i h = record { number = refl; places = refl; place = h }

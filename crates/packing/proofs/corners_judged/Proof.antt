@@ -12,7 +12,7 @@ use Rattle.packing.proofs.corners_judged.Reads as reads
 use Rattle.packing.proofs.corners_judged.Lts as lts
 use Rattle.table.proofs.at_place.Reads as at-place-reads
 use Rattle.table.proofs.judge.Reads as judge-reads
-use Rattle.table.proofs.late.Reads as late-reads
+use Rattle.columns.proofs.late.Reads as late-reads
 use Rattle.words.proofs.Answer.done.Reads as done-reads
 use Rattle.words.proofs.Answer.refused.Reads as refused-reads
 

@@ -1,15 +1,15 @@
--- `table::greatest` meets its contract: m is the greatest of the periods passed, and what is left decides the rest. Assumes nothing.
+-- `columns::greatest` meets its contract: m is the greatest of the periods passed, and what is left decides the rest. Assumes nothing.
 use mathlib.Core.Path.{_≡_, refl}
 use mathlib.Core.Logic.{⊎-elim}
 use Prim.Native.Nat.{ℕ, _≤_, _<_, _-_}
 use native.Mathlib.Omega.{arith}
 use lib.ListN.{length}
-use Rattle.table.specs.Steps.{Growing, growing-start, growing-next, growing-done}
+use Rattle.columns.specs.Steps.{Growing, growing-start, growing-next, growing-done}
 use borrow.Author.Needs.{needs}
-use Rattle.table.proofs.greatest.Statement.{statement}
-use Rattle.table.proofs.greatest.Tie as tie
-use Rattle.table.proofs.greatest.Reads as reads
-use Rattle.table.proofs.greatest.Lts as lts
+use Rattle.columns.proofs.greatest.Statement.{statement}
+use Rattle.columns.proofs.greatest.Tie as tie
+use Rattle.columns.proofs.greatest.Reads as reads
+use Rattle.columns.proofs.greatest.Lts as lts
 
 abbrev Inv-loop : tie.InvT-loop
 Inv-loop periods m₀ i₀ m i = Growing periods m i

@@ -1,17 +1,17 @@
--- `table::late` meets its contract: the places below i were tried, and their starts lie below their periods. Assumes nothing.
+-- `columns::late` meets its contract: the places below i were tried, and their starts lie below their periods. Assumes nothing.
 use mathlib.Core.Path.{_≡_, refl}
 use Prim.Native.Nat.{ℕ, _≤_, _<_, _-_}
 use native.Mathlib.Omega.{arith}
 use lib.ListN.{length, getD}
 use Rattle.lists.specs.Lowest.{Searching, searching-start, searching-next, searching-found, searching-none}
 use Rattle.lists.specs.Telling.{tells-true, tells-false}
-use Rattle.table.specs.Verdict.{late}
-use Rattle.table.specs.Steps.{late-tells}
+use Rattle.columns.specs.Columns.{late}
+use Rattle.columns.specs.Steps.{late-tells}
 use borrow.Author.Needs.{needs}
-use Rattle.table.proofs.late.Statement.{statement}
-use Rattle.table.proofs.late.Tie as tie
-use Rattle.table.proofs.late.Reads as reads
-use Rattle.table.proofs.late.Lts as lts
+use Rattle.columns.proofs.late.Statement.{statement}
+use Rattle.columns.proofs.late.Tie as tie
+use Rattle.columns.proofs.late.Reads as reads
+use Rattle.columns.proofs.late.Lts as lts
 
 abbrev Inv-loop : tie.InvT-loop
 Inv-loop periods starts i₀ i = Searching (late periods starts) (length periods) i

@@ -1,4 +1,4 @@
--- THE STEPS OF THE JUDGES: what each loop knows, and what each test tells.
+-- THE STEPS OF THE SEARCHES: what each loop knows, and what each test tells.
 --     bad-period-tells, bad-length-tells, late-tells    the tests of 3, 4 and 9 at a place
 --     Lessening Ts w i, Growing Ts m i                  w is the least, m the greatest, of what a loop has passed: what is left decides the rest
 -- Assumes nothing.
@@ -6,8 +6,7 @@ use mathlib.Core.Path.{_≡_, refl, sym, ap, _∙_}
 use mathlib.Core.Logic.{_⊎_, inl, inr}
 use mathlib.Core.Bool.{Bool, true, false}
 use mathlib.Core.List.{List, [], _∷_}
-use Prim.Native.Nat.{ℕ, zero, suc, _+_, _/_, _≤_, _<_, min, max}
-use native.Mathlib.Nat.{div-zero}
+use Prim.Native.Nat.{ℕ, zero, suc, _+_, _≤_, _<_, min, max}
 use native.Mathlib.Numerals.{add-one}
 use native.Mathlib.Omega.{arith}
 use lib.Dec.{leb, ltb, eqb}
@@ -15,8 +14,8 @@ use lib.ListN.{length, getD, drop, drop-of-length-le}
 use lib.Seq.{drop-cons}
 use Rattle.lists.specs.Pick.{Tells}
 use Rattle.lists.specs.Telling.{tells-either, tells-lt, tells-le, tells-eq}
-use Rattle.table.specs.Table.{mostPeriod, shortest, longest, leastOf, greatestOf, BadPeriod, BadLength, Late}
-use Rattle.table.specs.Verdict.{badPeriod, badLength, late}
+use Rattle.words.specs.Ticks.{mostPeriod}
+use Rattle.columns.specs.Columns.{shortest, longest, leastOf, greatestOf, BadPeriod, BadLength, Late, badPeriod, badLength, late}
 
 pub bad-period-tells : (Ts ps : List ℕ) (i : ℕ) → Tells (badPeriod Ts i) (BadPeriod Ts ps i)
 unfolding badPeriod
@@ -70,7 +69,3 @@ growing-next Ts m i v h e g = record { within = omega arith; rest = rw (e, add-o
 pub growing-done : (Ts : List ℕ) (m i : ℕ) → length Ts ≤ i → Growing Ts m i → m ≡ longest Ts
 unfolding greatestOf
 growing-done Ts m i h g = rw (drop-of-length-le Ts h) at (g .rest)
-
--- a quotient by 0 is 0, as H of the empty table
-pub div-by-none : (m w : ℕ) → w ≡ 0 → m / w ≡ 0
-div-by-none m w e = rw e (div-zero m)

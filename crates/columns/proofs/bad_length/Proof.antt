@@ -1,4 +1,4 @@
--- `table::bad_length` meets its contract: the places below i were tried, and their lengths are from 1 to w. Assumes nothing.
+-- `columns::bad_length` meets its contract: the places below i were tried, and their lengths are from 1 to w. Assumes nothing.
 use mathlib.Core.Path.{_≡_, refl}
 use mathlib.Core.Logic.{inl, inr}
 use Prim.Native.Nat.{ℕ, _≤_, _<_, _-_}
@@ -7,13 +7,13 @@ use lib.ListN.{length, getD}
 use Rattle.lists.specs.Lowest.{Searching, searching-start, searching-next, searching-found, searching-none}
 use Rattle.lists.specs.Telling.{tells-true, tells-false}
 use mathlib.Core.Logic.{⊎-elim}
-use Rattle.table.specs.Verdict.{badLength}
-use Rattle.table.specs.Steps.{length-tells}
+use Rattle.columns.specs.Columns.{badLength}
+use Rattle.columns.specs.Steps.{length-tells}
 use borrow.Author.Needs.{needs}
-use Rattle.table.proofs.bad_length.Statement.{statement}
-use Rattle.table.proofs.bad_length.Tie as tie
-use Rattle.table.proofs.bad_length.Reads as reads
-use Rattle.table.proofs.bad_length.Lts as lts
+use Rattle.columns.proofs.bad_length.Statement.{statement}
+use Rattle.columns.proofs.bad_length.Tie as tie
+use Rattle.columns.proofs.bad_length.Reads as reads
+use Rattle.columns.proofs.bad_length.Lts as lts
 
 abbrev Inv-loop : tie.InvT-loop
 Inv-loop lengths w i₀ i = Searching (badLength w lengths) (length lengths) i

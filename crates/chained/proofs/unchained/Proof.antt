@@ -1,4 +1,4 @@
--- `table::unchained` meets its contract: the kept periods are the different ones of the probes passed, and stand for every earlier probe. Assumes nothing.
+-- `chained::unchained` meets its contract: the kept periods are the different ones of the probes passed, and stand for every earlier probe. Assumes nothing.
 use mathlib.Core.Path.{_≡_, refl}
 use mathlib.Core.Logic.{⊎-elim}
 use Prim.Native.Nat.{ℕ, _≤_, _<_, _-_}
@@ -6,15 +6,15 @@ use native.Mathlib.Omega.{arith}
 use lib.ListN.{length, getD, length-set}
 use borrow.Author.Tests.{not-true, not-false}
 use Rattle.lists.specs.Lowest.{Searching, searching-start, searching-next, searching-found, searching-none}
-use Rattle.table.specs.Verdict.{unchained}
-use Rattle.table.specs.Seen.{Keeping, keeping-start, keeping-positive, keeping-seen, seen-more, keeping-clash, keeping-new, new-room, new-more}
+use Rattle.chained.specs.Chained.{unchained}
+use Rattle.chained.specs.Seen.{Keeping, keeping-start, keeping-positive, keeping-seen, seen-more, keeping-clash, keeping-new, new-room, new-more}
 use borrow.Author.Needs.{needs}
-use Rattle.table.proofs.unchained.Statement.{statement}
-use Rattle.table.proofs.unchained.Tie as tie
-use Rattle.table.proofs.unchained.Reads as reads
-use Rattle.table.proofs.unchained.Lts as lts
-use Rattle.table.proofs.clashes.Reads as clashes-reads
-use Rattle.table.proofs.is_seen.Reads as is-seen-reads
+use Rattle.chained.proofs.unchained.Statement.{statement}
+use Rattle.chained.proofs.unchained.Tie as tie
+use Rattle.chained.proofs.unchained.Reads as reads
+use Rattle.chained.proofs.unchained.Lts as lts
+use Rattle.chained.proofs.clashes.Reads as clashes-reads
+use Rattle.chained.proofs.is_seen.Reads as is-seen-reads
 
 abbrev Inv-loop : tie.InvT-loop
 Inv-loop periods seen₀ n₀ i₀ seen n i = (n ≤ 21) × (length seen ≡ 21) × Keeping periods seen n i × Searching (unchained periods) (length periods) i

@@ -1,4 +1,4 @@
--- `table::bad_period` meets its contract: the places below i were tried and found in range. Assumes nothing.
+-- `columns::bad_period` meets its contract: the places below i were tried and found in range. Assumes nothing.
 use mathlib.Core.Path.{_≡_, refl}
 use mathlib.Core.Logic.{inl, inr}
 use mathlib.Core.List.{[]}
@@ -8,13 +8,13 @@ use lib.ListN.{length, getD}
 use Rattle.lists.specs.Lowest.{Searching, searching-start, searching-next, searching-found, searching-none}
 use Rattle.lists.specs.Telling.{tells-true, tells-false}
 use mathlib.Core.Logic.{⊎-elim}
-use Rattle.table.specs.Verdict.{badPeriod}
-use Rattle.table.specs.Steps.{bad-period-tells}
+use Rattle.columns.specs.Columns.{badPeriod}
+use Rattle.columns.specs.Steps.{bad-period-tells}
 use borrow.Author.Needs.{needs}
-use Rattle.table.proofs.bad_period.Statement.{statement}
-use Rattle.table.proofs.bad_period.Tie as tie
-use Rattle.table.proofs.bad_period.Reads as reads
-use Rattle.table.proofs.bad_period.Lts as lts
+use Rattle.columns.proofs.bad_period.Statement.{statement}
+use Rattle.columns.proofs.bad_period.Tie as tie
+use Rattle.columns.proofs.bad_period.Reads as reads
+use Rattle.columns.proofs.bad_period.Lts as lts
 
 abbrev Inv-loop : tie.InvT-loop
 Inv-loop periods i₀ i = Searching (badPeriod periods) (length periods) i

@@ -1,4 +1,4 @@
--- `table::clashes` meets its contract: each of the first k divides x or is divided by it. Assumes nothing.
+-- `chained::clashes` meets its contract: each of the first k divides x or is divided by it. Assumes nothing.
 use mathlib.Core.Path.{_≡_, refl}
 use mathlib.Core.Logic.{⊎-elim, inl, inr}
 use Prim.Native.Nat.{ℕ, _≤_, _<_, _-_}
@@ -7,12 +7,12 @@ use native.Mathlib.Omega.{arith}
 use lib.ListN.{length, getD}
 use borrow.Author.Count.{below-more}
 use Rattle.lists.specs.Telling.{tells-yes, tells-no}
-use Rattle.table.specs.Seen.{Chained}
+use Rattle.chained.specs.Seen.{Chained}
 use borrow.Author.Needs.{needs}
-use Rattle.table.proofs.clashes.Statement.{statement}
-use Rattle.table.proofs.clashes.Tie as tie
-use Rattle.table.proofs.clashes.Reads as reads
-use Rattle.table.proofs.clashes.Lts as lts
+use Rattle.chained.proofs.clashes.Statement.{statement}
+use Rattle.chained.proofs.clashes.Tie as tie
+use Rattle.chained.proofs.clashes.Reads as reads
+use Rattle.chained.proofs.clashes.Lts as lts
 
 abbrev Inv-loop : tie.InvT-loop
 Inv-loop n x seen k₀ k = (k ≤ n) × ((j : ℕ) → j < k → Chained (getD seen j 0) x)

@@ -20,8 +20,8 @@ use borrow.Author.Tests.{eq-eqb, ne-eqb}
 use Rattle.lists.specs.Pick.{pick, either, Tells, anyBelow}
 use Rattle.lists.specs.Telling.{tells-true, tells-false, tells-as, tells-not, tells-either, tells-any, tells-divides}
 use Rattle.lists.specs.Doubling.{Mutual, few}
-use Rattle.table.specs.Table.{Unchained, mostPeriod}
-use Rattle.table.specs.Verdict.{divides, chained, unchained}
+use Rattle.words.specs.Ticks.{mostPeriod}
+use Rattle.chained.specs.Chained.{Unchained, divides, chained, unchained}
 
 -- at most 21 different numbers within a period's range divide one another
 abbrev pub mostChained : ℕ
