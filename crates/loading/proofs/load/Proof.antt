@@ -1,17 +1,17 @@
--- `book::load` meets its contract: the entries below i are those of the records. Assumes nothing.
+-- `loading::load` meets its contract: the entries below i are those of the records. Assumes nothing.
 use mathlib.Core.Path.{_≡_, refl, sym, ap, _∙_}
 use mathlib.Core.List.{_++_}
 use Prim.Native.Nat.{ℕ, _+_, _-_, _*_, _/_, _%_, _≤_, _<_}
 use native.Mathlib.Omega.{arith}
 use lib.ListN.{length, drop}
 use Rattle.sheets.specs.Layout.{firstEdition}
-use Rattle.book.specs.Reading.{field, column}
-use Rattle.book.specs.Loading.{field-room, load-long, load-next}
+use Rattle.loading.specs.Blocks.{field, column}
+use Rattle.loading.specs.Loading.{field-room, load-long, load-next}
 use borrow.Author.Needs.{needs}
-use Rattle.book.proofs.load.Statement.{statement}
-use Rattle.book.proofs.load.Tie as tie
-use Rattle.book.proofs.load.Reads as reads
-use Rattle.book.proofs.load.Lts as lts
+use Rattle.loading.proofs.load.Statement.{statement}
+use Rattle.loading.proofs.load.Tie as tie
+use Rattle.loading.proofs.load.Reads as reads
+use Rattle.loading.proofs.load.Lts as lts
 use Rattle.sheets.proofs.four.Reads as four-reads
 
 abbrev Inv-loop : tie.InvT-loop

@@ -1,15 +1,15 @@
--- `book::bad_size` meets its contract: the first test that applies says it. Assumes nothing.
+-- `loading::bad_size` meets its contract: the first test that applies says it. Assumes nothing.
 use mathlib.Core.Path.{_≡_, refl, sym, ap, _∙_}
 use mathlib.Core.Logic.{inl, inr}
 use native.Mathlib.Omega.{arith}
 use borrow.Author.Tests.{eq-eqb, ne-eqb}
 use Rattle.sheets.specs.Layout.{firstEdition}
-use Rattle.book.specs.Reading.{badSize}
+use Rattle.loading.specs.Blocks.{badSize}
 use borrow.Author.Needs.{needs}
-use Rattle.book.proofs.bad_size.Statement.{statement}
-use Rattle.book.proofs.bad_size.Tie as tie
-use Rattle.book.proofs.bad_size.Reads as reads
-use Rattle.book.proofs.bad_size.Lts as lts
+use Rattle.loading.proofs.bad_size.Statement.{statement}
+use Rattle.loading.proofs.bad_size.Tie as tie
+use Rattle.loading.proofs.bad_size.Reads as reads
+use Rattle.loading.proofs.bad_size.Lts as lts
 
 returns : tie.Need-returns
 unfolding badSize

@@ -1,4 +1,4 @@
--- `book::put_blocks` meets its contract: b blocks are stored, one after another. Assumes nothing.
+-- `filling::put_blocks` meets its contract: b blocks are stored, one after another. Assumes nothing.
 use mathlib.Core.Path.{_≡_, refl, sym, ap, _∙_}
 use Prim.Native.Nat.{ℕ, _+_, _-_, _*_, _≤_, _<_}
 use native.Mathlib.Nat.{zero-add}
@@ -8,15 +8,14 @@ use lib.Seq.{sets, length-sets}
 use borrow.Rule.Slice.PartMut.{mid-len}
 use Rattle.sheets.specs.Layout.{firstEdition}
 use Rattle.sheets.specs.Runs.{runFrom, run-store}
 use Rattle.filling.specs.Filling.{blockOf}
-use Rattle.filling.specs.FillingLaws.{length-block}
-use Rattle.book.specs.WriteLaws.{part-stored}
+use Rattle.filling.specs.FillingLaws.{length-block, part-stored}
 use borrow.Author.Needs.{needs}
-use Rattle.book.proofs.put_blocks.Statement.{statement}
-use Rattle.book.proofs.put_blocks.Tie as tie
-use Rattle.book.proofs.put_blocks.Reads as reads
-use Rattle.book.proofs.put_blocks.Lts as lts
+use Rattle.filling.proofs.put_blocks.Statement.{statement}
+use Rattle.filling.proofs.put_blocks.Tie as tie
+use Rattle.filling.proofs.put_blocks.Reads as reads
+use Rattle.filling.proofs.put_blocks.Lts as lts
 use Rattle.filling.proofs.put_block.Reads as put-block-reads
 
 abbrev Inv-loop : tie.InvT-loop
 Inv-loop periods lengths starts blocks out₀ b₀ out b = (b ≤ blocks) × (out ≡ sets out₀ 0 (runFrom (blockOf firstEdition periods lengths starts) 0 b))

@@ -1,16 +1,16 @@
--- `filling::put_record` meets its contract: three runs of stores, each where the one before ended. Assumes nothing.
+-- `records::put_record` meets its contract: three runs of stores, each where the one before ended. Assumes nothing.
 use mathlib.Core.Path.{_≡_, refl, sym, ap, _∙_}
 use Prim.Native.Nat.{suc, _+_}
 use native.Mathlib.Omega.{arith}
 use Rattle.sheets.specs.Bytes.{bytes}
-use Rattle.filling.specs.Filling.{recordOf}
-use Rattle.filling.specs.FillingLaws.{record-stored}
+use Rattle.records.specs.Records.{recordOf}
+use Rattle.records.specs.RecordLaws.{record-stored}
 use borrow.Author.Needs.{needs}
-use Rattle.filling.proofs.put_record.Statement.{statement}
-use Rattle.filling.proofs.put_record.Tie as tie
-use Rattle.filling.proofs.put_record.Reads as reads
-use Rattle.filling.proofs.put_record.Lts as lts
-use Rattle.filling.proofs.put4.Reads as put4-reads
+use Rattle.records.proofs.put_record.Statement.{statement}
+use Rattle.records.proofs.put_record.Tie as tie
+use Rattle.records.proofs.put_record.Reads as reads
+use Rattle.records.proofs.put_record.Lts as lts
+use Rattle.records.proofs.put4.Reads as put4-reads
 
 put4-requires : tie.Need-put4-requires
 put4-requires c κs = search needs

@@ -1,4 +1,4 @@
--- `book::judge_blocks` meets its contract: the blocks below b are right, so the answer for the rest is the answer. Assumes nothing.
+-- `loading::judge_blocks` meets its contract: the blocks below b are right, so the answer for the rest is the answer. Assumes nothing.
 use mathlib.Core.Path.{_≡_, refl, sym, ap, _∙_}
 use Prim.Native.Nat.{ℕ, _+_, _-_, _*_, _/_, _≤_, _<_}
 use native.Mathlib.Omega.{arith}
@@ -6,14 +6,14 @@ use lib.ListN.{length}
 use Rattle.sheets.specs.Layout.{firstEdition}
 use Rattle.sheets.specs.ByteLaws.{word-two}
 use Rattle.words.specs.Answers.{refused}
-use Rattle.book.specs.Reading.{blocksIn, nOf}
-use Rattle.book.specs.ReadLaws.{RightSize, size-tested, Searched, searched-start, searched-next, searched-found, searched-none}
-use Rattle.book.specs.Loading.{part-long, part-verdict}
+use Rattle.loading.specs.Blocks.{blocksIn, nOf}
+use Rattle.loading.specs.BlocksLaws.{RightSize, size-tested, Searched, searched-start, searched-next, searched-found, searched-none}
+use Rattle.loading.specs.Loading.{part-long, part-verdict}
 use borrow.Author.Needs.{needs}
-use Rattle.book.proofs.judge_blocks.Statement.{statement}
-use Rattle.book.proofs.judge_blocks.Tie as tie
-use Rattle.book.proofs.judge_blocks.Reads as reads
-use Rattle.book.proofs.judge_blocks.Lts as lts
+use Rattle.loading.proofs.judge_blocks.Statement.{statement}
+use Rattle.loading.proofs.judge_blocks.Tie as tie
+use Rattle.loading.proofs.judge_blocks.Reads as reads
+use Rattle.loading.proofs.judge_blocks.Lts as lts
 use Rattle.judging.proofs.verdict.Reads as verdict-reads
 use Rattle.sheets.proofs.two.Reads as two-reads
 use Rattle.words.proofs.Answer.refused.Reads as refused-reads

@@ -1,14 +1,14 @@
--- `filling::put4` meets its contract: four stores, least byte first. Assumes nothing.
+-- `records::put4` meets its contract: four stores, least byte first. Assumes nothing.
 use mathlib.Core.Path.{_≡_, refl}
 use Prim.Native.Nat.{suc, _+_}
 use native.Mathlib.Omega.{arith}
 use lib.ListN.{length-set}
 use Rattle.sheets.specs.Bytes.{bytes}
 use borrow.Author.Needs.{needs}
-use Rattle.filling.proofs.put4.Statement.{statement}
-use Rattle.filling.proofs.put4.Tie as tie
-use Rattle.filling.proofs.put4.Reads as reads
-use Rattle.filling.proofs.put4.Lts as lts
+use Rattle.records.proofs.put4.Statement.{statement}
+use Rattle.records.proofs.put4.Tie as tie
+use Rattle.records.proofs.put4.Reads as reads
+use Rattle.records.proofs.put4.Lts as lts
 
 cast-byte : tie.Need-cast-byte
 cast-byte c = search needs

@@ -4,7 +4,6 @@
 --     field-room            every number of the first n records stands within the book
 --     load-next             one more entry of a column
 --     Passed bs a           what is known where no block is bad
---     done-is               three columns filled are what a done reading leaves
 -- Assumes nothing.
 use mathlib.Core.Path.{_≡_, refl, sym, ap, _∙_}
 use mathlib.Core.Bool.{false}
@@ -22,8 +21,8 @@ use Rattle.judging.specs.Block.{blockVerdict}
 use Rattle.judging.specs.BlockLaws.{RightField}
 use Rattle.words.specs.declared.Answer.{Answer}
 use Rattle.words.specs.Answers.{refused}
-use Rattle.book.specs.Reading.{badSize, blockAt, blocksIn, nOf, judgedBlocks, field, column, columns, doneRead}
-use Rattle.book.specs.ReadLaws.{verdictAt, judged-right, RightBlock, right-block, RightSize, size-tested, read-n}
+use Rattle.loading.specs.Blocks.{badSize, blockAt, blocksIn, nOf, judgedBlocks, field, column}
+use Rattle.loading.specs.BlocksLaws.{verdictAt, judged-right, judged-n, RightBlock, right-block, RightSize, size-tested}
 
 module _ (bs : List ℕ) (b : ℕ) where
   pub block-long : b < blocksIn bs → length (blockAt b bs) ≡ blockBytes
@@ -93,13 +92,7 @@ pub passed : (bs : List ℕ) (a : Answer) → badSize firstEdition bs ≡ false 
 unfolding blocksIn
 passed bs a size judged right =
     let s = size-tested firstEdition bs size in
-    let e = read-n firstEdition bs [] [] [] size a judged right in
+    let e = judged-n firstEdition bs a judged right in
     let i : a .index ≡ nOf bs = ap (λ (z : Answer). z .index) e in
     let r = right-block firstEdition (nOf bs) (length bs / 512) 0 (blockAt 0 bs) (judged-right firstEdition bs (rw judged at right) 0 (omega arith)) in
     record { n-is = e; few = rw i (r .fields .few); room = rw (i, r .fields .count) (omega arith) }
-
-pub done-is : (L : Layout) (bs Ts ps ss Ts₁ ps₁ ss₁ : List ℕ) (a : Answer) → a ≡ refused 0 (nOf bs)
-    → Ts₁ ≡ column L bs 0 0 (a .index) ++ drop (a .index) Ts → ps₁ ≡ column L bs 1 0 (a .index) ++ drop (a .index) ps → ss₁ ≡ column L bs 2 0 (a .index) ++ drop (a .index) ss
-    → columns a Ts₁ ps₁ ss₁ ≡ doneRead L bs Ts ps ss
-unfolding doneRead
-done-is L bs Ts ps ss Ts₁ ps₁ ss₁ a e f g h = rw (f, g, h, e)
