@@ -17,7 +17,7 @@ use Rattle.lists.specs.Telling.{tells-either, tells-not, tells-le, tells-divide
 use Rattle.table.specs.declared.Table.{Table}
 use Rattle.table.specs.Table.{mostPeriod, mostRows, shortest, longest, rows, height}
 use Rattle.table.specs.Heights.{shortest-positive, height-positive, rows-slots, slots-times}
-use Rattle.chain.specs.declared.Chain.{Chain}
+use Rattle.flipping.specs.declared.Chain.{Chain}
 use Rattle.chain.specs.Flip.{flip, unflip}
 use Rattle.chain.specs.Flip.Laws.{flip-below}
 use Rattle.chain.specs.Ratios.{ratios, twelve}

@@ -19,7 +19,7 @@ use Rattle.table.specs.declared.Table.{Table}
 use Rattle.table.specs.Table.{Differ, lines, lateLine, Sound, Below}
 use Rattle.table.specs.Laws.{sound-gives}
 use Rattle.table.specs.Composing.{Numbered}
-use Rattle.chain.specs.declared.Chain.{Chain}
+use Rattle.flipping.specs.declared.Chain.{Chain}
 use Rattle.grid.specs.Grid.{tableOf, chainOf, Prepared}
 
 -- checks that answer 0 found nothing

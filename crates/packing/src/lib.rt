@@ -6,7 +6,7 @@ ghost use Rattle.words.specs.Answers.{refused, done};
 ghost use Rattle.stack.specs.FirstFit.{outcome, planFindings};
 ghost use Rattle.packing.specs.Converting.{cornerFindings, startFindings, corners, asStarts, ToCorners, ToStarts};
 ghost use Rattle.packing.specs.Plan.{Plans};
-use chain::Chain;
+use flipping::Chain;
 use table::Table;
 use words::Answer;
 

@@ -17,7 +17,7 @@ use Rattle.table.specs.declared.Table.{Table}
 use Rattle.table.specs.Table.{mostPeriod, mostRows, shortest, height}
 use Rattle.table.specs.Extremes.{shortest-least}
 use Rattle.table.specs.Heights.{height-positive, rows-slots, slots-times}
-use Rattle.chain.specs.declared.Chain.{Chain}
+use Rattle.flipping.specs.declared.Chain.{Chain}
 use Rattle.chain.specs.CornerLaws.{OnGrid}
 use Rattle.stack.specs.Stack.{raised, Fits, bins, lowestBin}
 use Rattle.stack.specs.FirstFit.{binOf, startIn}

@@ -10,7 +10,7 @@ use lib.Dec.{ltb}
 use lib.ListN.{length, getD, set}
 use Rattle.table.specs.declared.Table.{Table}
 use Rattle.table.specs.Table.{mostPeriod, shortest, rows, height}
-use Rattle.chain.specs.declared.Chain.{Chain}
+use Rattle.flipping.specs.declared.Chain.{Chain}
 use Rattle.grid.specs.Grid.{Prepared}
 use Rattle.stack.specs.Stack.{raised, bins}
 use Rattle.stack.specs.FirstFit.{binOf, startIn}

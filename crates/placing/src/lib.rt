@@ -1,6 +1,6 @@
 // One probe put into the rows.
 ghost use Rattle.placing.specs.Placing.{Ready, Tried};
-use chain::Chain;
+use flipping::Chain;
 use table::Table;
 
 // Puts probe i into its lowest sub-bin with room: its start is written and its rows are raised. Where there is none, nothing changes.

@@ -7,7 +7,7 @@ ghost use Rattle.table.specs.Table.{mostProbes, rows, shortest};
 ghost use Rattle.order.specs.Order.{order};
 ghost use Rattle.grid.specs.Grid.{Prepared};
 ghost use Rattle.stack.specs.FirstFit.{outcome, marked, fitted};
-use chain::Chain;
+use flipping::Chain;
 use placing::place;
 use table::Table;
 use words::Answer;

@@ -11,7 +11,7 @@ use Rattle.packing.proofs.starts_judged.Statement.{statement}
 use Rattle.packing.proofs.starts_judged.Tie as tie
 use Rattle.packing.proofs.starts_judged.Reads as reads
 use Rattle.packing.proofs.starts_judged.Lts as lts
-use Rattle.chain.proofs.Chain.of.Reads as Chain-of-reads
+use Rattle.flipping.proofs.Chain.of.Reads as Chain-of-reads
 use Rattle.grid.proofs.off_grid.Reads as off-grid-reads
 use Rattle.table.proofs.Table.of.Reads as Table-of-reads
 use Rattle.table.proofs.at_place.Reads as at-place-reads

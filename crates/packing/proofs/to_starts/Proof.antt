@@ -10,7 +10,7 @@ use Rattle.packing.proofs.to_starts.Statement.{statement}
 use Rattle.packing.proofs.to_starts.Tie as tie
 use Rattle.packing.proofs.to_starts.Reads as reads
 use Rattle.packing.proofs.to_starts.Lts as lts
-use Rattle.chain.proofs.Chain.of.Reads as Chain-of-reads
+use Rattle.flipping.proofs.Chain.of.Reads as Chain-of-reads
 use Rattle.grid.proofs.write_starts.Reads as write-starts-reads
 use Rattle.packing.proofs.starts_judged.Reads as starts-judged-reads
 use Rattle.table.proofs.Table.of.Reads as Table-of-reads

@@ -1,12 +1,12 @@
--- `chain::reverse` meets its contract. The loop's invariant: the first i places hold the last i of d, from the end. The measure is what is left of the twelve.
+-- `digits::reverse` meets its contract. The loop's invariant: the first i places hold the last i of d, from the end. The measure is what is left of the twelve.
 -- Assumes nothing.
 use borrow.Author.Needs.{needs}
 use native.Mathlib.Omega.{arith}
 use Prim.Native.Nat.{_-_}
 use Rattle.chain.specs.Ratios.{mostRatios}
 use Rattle.chain.specs.Passes.{Reversing, reversing-start, reversing-next, reversing-done}
-use Rattle.chain.proofs.reverse.Statement.{statement}
-use Rattle.chain.proofs.reverse.Tie as tie
+use Rattle.digits.proofs.reverse.Statement.{statement}
+use Rattle.digits.proofs.reverse.Tie as tie
 
 abbrev Inv-loop : tie.InvT-loop
 Inv-loop d e₀ i₀ e i = Reversing d e i

@@ -1,11 +1,11 @@
--- `chain::compose` meets its contract. The loop's invariant: v is the number that the digits from place i on stand for. The measure is i.
+-- `digits::compose` meets its contract. The loop's invariant: v is the number that the digits from place i on stand for. The measure is i.
 -- Assumes nothing.
 use borrow.Author.Needs.{needs}
 use native.Mathlib.Omega.{arith}
 use Prim.Native.Nat.{_-_}
 use Rattle.chain.specs.Passes.{Composing, composing-start, composing-next, composing-fits, composing-done}
-use Rattle.chain.proofs.compose.Statement.{statement}
-use Rattle.chain.proofs.compose.Tie as tie
+use Rattle.digits.proofs.compose.Statement.{statement}
+use Rattle.digits.proofs.compose.Tie as tie
 
 abbrev Inv-loop : tie.InvT-loop
 Inv-loop ratios d v₀ i₀ v i = Composing ratios d v i

@@ -1,12 +1,12 @@
--- `chain::decompose` meets its contract. The loop's invariant: the first digits, as many as place says, stand in d, and rest has the others. The measure is what is left of the twelve.
+-- `digits::decompose` meets its contract. The loop's invariant: the first digits, as many as place says, stand in d, and rest has the others. The measure is what is left of the twelve.
 -- Assumes nothing.
 use borrow.Author.Needs.{needs}
 use native.Mathlib.Omega.{arith}
 use Prim.Native.Nat.{_-_}
 use Rattle.chain.specs.Ratios.{mostRatios}
 use Rattle.chain.specs.Passes.{Decomposing, decomposing-next, decomposing-done, positive-at}
-use Rattle.chain.proofs.decompose.Statement.{statement}
-use Rattle.chain.proofs.decompose.Tie as tie
+use Rattle.digits.proofs.decompose.Statement.{statement}
+use Rattle.digits.proofs.decompose.Tie as tie
 
 abbrev Inv-loop : tie.InvT-loop
 Inv-loop v ratios d₀ rest₀ place₀ d rest place = Decomposing ratios v d rest place
