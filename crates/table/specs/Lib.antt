@@ -3,6 +3,7 @@ pub mod Verdict
 pub mod Ways
 pub mod Laws
 pub mod Composing
+pub mod Passed
 pub mod Extremes
 pub mod Heights
 pub mod Widths

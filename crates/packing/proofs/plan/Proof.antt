@@ -7,7 +7,7 @@ use lib.Seq.{length-take-le}
 use Rattle.table.specs.declared.Table.{Table}
 use Rattle.table.specs.Table.{rows}
 use Rattle.table.specs.Laws.{sound-gives}
-use Rattle.packing.specs.Sound.{prepared-of}
+use Rattle.grid.specs.Laws.{prepared-of}
 use Rattle.packing.specs.Ends.{PlanReady, plan-ready, plan-refused-end, plan-end}
 use borrow.Author.Needs.{needs}
 use Rattle.packing.proofs.plan.Statement.{statement}

@@ -4,7 +4,7 @@ use native.Mathlib.Omega.{arith}
 use lib.ListN.{length}
 use Rattle.table.specs.Laws.{sound-gives}
 use Rattle.table.specs.Composing.{zero-sound}
-use Rattle.packing.specs.Sound.{prepared-of}
+use Rattle.grid.specs.Laws.{prepared-of}
 use Rattle.packing.specs.Ways.{starts-differ-x, starts-differ-y, starts-refused, starts-short, starts-off, starts-pass}
 use borrow.Author.Needs.{needs}
 use Rattle.packing.proofs.starts_judged.Statement.{statement}

@@ -3,7 +3,7 @@ use mathlib.Core.Path.{_≡_, refl, sym, ap, _∙_}
 use native.Mathlib.Omega.{arith}
 use lib.ListN.{length}
 use Rattle.table.specs.Laws.{sound-gives}
-use Rattle.packing.specs.Sound.{prepared-of}
+use Rattle.grid.specs.Laws.{prepared-of}
 use Rattle.packing.specs.Ends.{CornersReady, corners-ready, corners-refused-end, corners-end}
 use borrow.Author.Needs.{needs}
 use Rattle.packing.proofs.to_corners.Statement.{statement}
