@@ -26,7 +26,8 @@ use Rattle.order.specs.Order.{order}
 use Rattle.stack.specs.FirstFit.{Outcome, outcome, fitted, planLines, planFindings, refusedPlan, placed, planned}
 use Rattle.packing.specs.Converting.{Corners, corners, cornerLines, cornerFindings, refusedCorners, doneCorners, ToCorners, cornersOf, DifferFour, Starts, asStarts, startLines, startFindings, refusedStarts, doneStarts, ToStarts, startsOf}
 use Rattle.packing.specs.Plan.{Plans}
-use Rattle.packing.specs.Checks.{corner-numbered, corner-find, corners-meet, start-numbered, start-find, starts-meet, plan-numbered, plan-find, planned-meets}
+use Rattle.admitting.specs.Checks.{corner-numbered, corner-find, start-numbered, start-find, plan-numbered, plan-find}
+use Rattle.packing.specs.Checks.{corners-meet, starts-meet, planned-meets}
 
 module _ {O : Type 0} (fs : List Found) (refuse : ℕ → ℕ → O) (o : O) (a : Answer) (e : a ≡ firstOf fs refused done) where
   refused-end : (wrap : Answer → O) → ((k i : ℕ) → refuse k i ≡ wrap (refused k i)) → (a .number ≡ 0 → ⊥) → wrap a ≡ firstOf fs refuse o

@@ -15,7 +15,7 @@ use Rattle.packing.proofs.plan.Tie as tie
 use Rattle.packing.proofs.plan.Reads as reads
 use Rattle.packing.proofs.plan.Lts as lts
 use Rattle.flipping.proofs.Chain.of.Reads as Chain-of-reads
-use Rattle.packing.proofs.plan_judged.Reads as plan-judged-reads
+use Rattle.admitting.proofs.plan_judged.Reads as plan-judged-reads
 use Rattle.ranks.proofs.order_of.Reads as order-of-reads
 use Rattle.rows.proofs.clear.Reads as clear-reads
 use Rattle.seating.proofs.place_all.Reads as place-all-reads

@@ -12,7 +12,7 @@ use Rattle.packing.proofs.to_corners.Reads as reads
 use Rattle.packing.proofs.to_corners.Lts as lts
 use Rattle.flipping.proofs.Chain.of.Reads as Chain-of-reads
 use Rattle.grid.proofs.write_corners.Reads as write-corners-reads
-use Rattle.packing.proofs.corners_judged.Reads as corners-judged-reads
+use Rattle.admitting.proofs.corners_judged.Reads as corners-judged-reads
 use Rattle.table.proofs.Table.of.Reads as Table-of-reads
 
 corners-judged-requires : tie.Need-corners-judged-requires

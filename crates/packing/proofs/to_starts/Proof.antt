@@ -12,7 +12,7 @@ use Rattle.packing.proofs.to_starts.Reads as reads
 use Rattle.packing.proofs.to_starts.Lts as lts
 use Rattle.flipping.proofs.Chain.of.Reads as Chain-of-reads
 use Rattle.grid.proofs.write_starts.Reads as write-starts-reads
-use Rattle.packing.proofs.starts_judged.Reads as starts-judged-reads
+use Rattle.admitting.proofs.starts_judged.Reads as starts-judged-reads
 use Rattle.table.proofs.Table.of.Reads as Table-of-reads
 
 starts-judged-requires : tie.Need-starts-judged-requires

@@ -1,15 +1,15 @@
--- `packing::corners_judged` meets its contract: each way out is a way of specs/Ways. Assumes nothing.
+-- `admitting::corners_judged` meets its contract: each way out is a way of specs/Ways. Assumes nothing.
 use mathlib.Core.Path.{_≡_, refl, sym, ap, _∙_}
 use native.Mathlib.Omega.{arith}
 use lib.ListN.{length}
 use Rattle.table.specs.Laws.{sound-gives}
 use Rattle.table.specs.Composing.{zero-sound}
-use Rattle.packing.specs.Ways.{corners-differ, corners-refused, corners-short-x, corners-short-y, corners-late, corners-pass}
+use Rattle.admitting.specs.Ways.{corners-differ, corners-refused, corners-short-x, corners-short-y, corners-late, corners-pass}
 use borrow.Author.Needs.{needs}
-use Rattle.packing.proofs.corners_judged.Statement.{statement}
-use Rattle.packing.proofs.corners_judged.Tie as tie
-use Rattle.packing.proofs.corners_judged.Reads as reads
-use Rattle.packing.proofs.corners_judged.Lts as lts
+use Rattle.admitting.proofs.corners_judged.Statement.{statement}
+use Rattle.admitting.proofs.corners_judged.Tie as tie
+use Rattle.admitting.proofs.corners_judged.Reads as reads
+use Rattle.admitting.proofs.corners_judged.Lts as lts
 use Rattle.table.proofs.at_place.Reads as at-place-reads
 use Rattle.table.proofs.judge.Reads as judge-reads
 use Rattle.columns.proofs.late.Reads as late-reads

@@ -18,8 +18,8 @@ use Rattle.table.specs.Table.{rows}
 use Rattle.table.specs.Verdict.{findings, late, verdict}
 use Rattle.grid.specs.Grid.{offGrid}
 use Rattle.stack.specs.FirstFit.{planFindings}
-use Rattle.packing.specs.Converting.{cornerLast, cornerFindings, startLast, startFindings}
-use Rattle.packing.specs.Checks.{judged-refused, judged-passed, short-way, long-way, place-way, none-way, either-left, either-right, either-none, same-left, other-left, differ-way, planLast}
+use Rattle.admitting.specs.Admitting.{cornerLast, cornerFindings, startLast, startFindings}
+use Rattle.admitting.specs.Checks.{judged-refused, judged-passed, short-way, long-way, place-way, none-way, either-left, either-right, either-none, same-left, other-left, differ-way, planLast}
 
 module _ (Ts ps ss xs ys : List ℕ) where
   abbrev all : List Found

@@ -1,16 +1,16 @@
--- `packing::starts_judged` meets its contract: each way out is a way of specs/Ways. Assumes nothing.
+-- `admitting::starts_judged` meets its contract: each way out is a way of specs/Ways. Assumes nothing.
 use mathlib.Core.Path.{_≡_, refl, sym, ap, _∙_}
 use native.Mathlib.Omega.{arith}
 use lib.ListN.{length}
 use Rattle.table.specs.Laws.{sound-gives}
 use Rattle.table.specs.Composing.{zero-sound}
 use Rattle.grid.specs.Laws.{prepared-of}
-use Rattle.packing.specs.Ways.{starts-differ-x, starts-differ-y, starts-refused, starts-short, starts-off, starts-pass}
+use Rattle.admitting.specs.Ways.{starts-differ-x, starts-differ-y, starts-refused, starts-short, starts-off, starts-pass}
 use borrow.Author.Needs.{needs}
-use Rattle.packing.proofs.starts_judged.Statement.{statement}
-use Rattle.packing.proofs.starts_judged.Tie as tie
-use Rattle.packing.proofs.starts_judged.Reads as reads
-use Rattle.packing.proofs.starts_judged.Lts as lts
+use Rattle.admitting.proofs.starts_judged.Statement.{statement}
+use Rattle.admitting.proofs.starts_judged.Tie as tie
+use Rattle.admitting.proofs.starts_judged.Reads as reads
+use Rattle.admitting.proofs.starts_judged.Lts as lts
 use Rattle.flipping.proofs.Chain.of.Reads as Chain-of-reads
 use Rattle.grid.proofs.off_grid.Reads as off-grid-reads
 use Rattle.table.proofs.Table.of.Reads as Table-of-reads
