@@ -1,33 +1,7 @@
--- A LIST THAT PASSES 1 TO 6 AND 9, probe by probe. Document 01, "Numbers the master shows".
+-- A LIST THAT PASSES 1 TO 6 AND 9. Document 01, "Numbers the master shows".
 --     Passes Ts ps ss           what number 0 of the judge of a list says (table, specs/Passed)
---     InRange Ts ps ss i        what that says of probe i
+--     InRange Ts ps ss i        what that says of probe i (pairs, specs/Range)
 -- Edges: the empty list passes.
 -- Assumes nothing.
-use mathlib.Core.List.{List}
-use Prim.Native.Nat.{ℕ, _≤_, _<_}
-use native.Mathlib.Omega.{arith}
-use lib.ListN.{length, getD}
-use Rattle.table.specs.Table.{mostPeriod}
-use Rattle.table.specs.Laws.{sound-gives}
-use Rattle.table.specs.Extremes.{shortest-least}
-use Rattle.table.specs.Passed.{below-of}
 pub use Rattle.table.specs.Passed.{Passes, silent-passes, passes-silent, sound-silent, zero-passes}
-
-module _ (Ts ps ss : List ℕ) where
-  pub record InRange (i : ℕ) : Type 0 where
-    pub least : 0 < getD Ts i 0
-    pub most : getD Ts i 0 ≤ mostPeriod
-    pub reads : 0 < getD ps i 0
-    pub short : getD ps i 0 ≤ getD Ts i 0
-    pub begins : getD ss i 0 < getD Ts i 0
-
-  pub passes-gives : Passes Ts ps ss → (i : ℕ) → i < length Ts → InRange i
-  passes-gives p i h =
-      let s = sound-gives Ts ps (p .sound) in
-      record {
-        least = s .least i h;
-        most = s .most i h;
-        reads = s .reads i h;
-        short = omega (arith, s .short i h, shortest-least Ts i h);
-        begins = below-of Ts ss (p .below) i h;
-      }
+pub use Rattle.pairs.specs.Range.{InRange, passes-gives}

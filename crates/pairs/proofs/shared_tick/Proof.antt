@@ -1,10 +1,10 @@
--- `checker::shared_tick` meets its contract: one way out for each of the four cases. Assumes nothing.
+-- `pairs::shared_tick` meets its contract: one way out for each of the four cases. Assumes nothing.
 use native.Mathlib.Omega.{arith}
 use Rattle.wire.specs.Lag.{lag-lt}
-use Rattle.checker.specs.Steps.{tick-inside, tick-overrun, tick-shorter, tick-second}
+use Rattle.pairs.specs.Steps.{tick-inside, tick-overrun, tick-shorter, tick-second}
 use borrow.Author.Needs.{needs}
-use Rattle.checker.proofs.shared_tick.Statement.{statement}
-use Rattle.checker.proofs.shared_tick.Tie as tie
+use Rattle.pairs.proofs.shared_tick.Statement.{statement}
+use Rattle.pairs.proofs.shared_tick.Tie as tie
 
 lag-requires : tie.Need-lag-requires
 lag-requires c κs = search needs

@@ -1,15 +1,15 @@
--- `timetable::first_from` meets its contract: the start, the tick itself, or the rest of its turn later. Assumes nothing.
+-- `moments::first_from` meets its contract: the start, the tick itself, or the rest of its turn later. Assumes nothing.
 use Prim.Native.Nat.{_-_}
 use native.Mathlib.Nat.{mod-lt}
 use native.Mathlib.Omega.{arith}
-use Rattle.timetable.specs.Timetable.{phase}
-use Rattle.timetable.specs.NextLaws.{candidate-now, candidate-here, candidate-later}
+use Rattle.moments.specs.Moments.{phase}
+use Rattle.moments.specs.Laws.{candidate-now, candidate-here, candidate-later}
 use borrow.Author.Needs.{needs}
-use Rattle.timetable.proofs.first_from.Statement.{statement}
-use Rattle.timetable.proofs.first_from.Tie as tie
-use Rattle.timetable.proofs.first_from.Reads as reads
-use Rattle.timetable.proofs.first_from.Lts as lts
-use Rattle.timetable.proofs.phase.Reads as phase-reads
+use Rattle.moments.proofs.first_from.Statement.{statement}
+use Rattle.moments.proofs.first_from.Tie as tie
+use Rattle.moments.proofs.first_from.Reads as reads
+use Rattle.moments.proofs.first_from.Lts as lts
+use Rattle.moments.proofs.phase.Reads as phase-reads
 
 returns : tie.Need-returns
 returns c =

@@ -1,12 +1,12 @@
--- `timetable::phase` meets its contract: a remainder lies below the period, so it fits. Assumes nothing.
+-- `moments::phase` meets its contract: a remainder lies below the period, so it fits. Assumes nothing.
 use mathlib.Core.Path.{refl}
 use Prim.Native.Nat.{_-_}
 use native.Mathlib.Nat.{mod-lt}
 use native.Mathlib.Omega.{arith}
-use Rattle.timetable.specs.Timetable.{phase}
+use Rattle.moments.specs.Moments.{phase}
 use borrow.Author.Needs.{needs}
-use Rattle.timetable.proofs.phase.Statement.{statement}
-use Rattle.timetable.proofs.phase.Tie as tie
+use Rattle.moments.proofs.phase.Statement.{statement}
+use Rattle.moments.proofs.phase.Tie as tie
 
 sub-result : tie.Need-sub-result
 sub-result c = search needs

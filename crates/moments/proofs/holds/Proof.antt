@@ -1,9 +1,9 @@
--- `timetable::holds` meets its contract: not before the start, and then by the ticks since. Assumes nothing.
+-- `moments::holds` meets its contract: not before the start, and then by the ticks since. Assumes nothing.
 use native.Mathlib.Omega.{arith}
-use Rattle.timetable.specs.HolderLaws.{early-holds, phase-holds}
+use Rattle.moments.specs.Laws.{early-holds, phase-holds}
 use borrow.Author.Needs.{needs}
-use Rattle.timetable.proofs.holds.Statement.{statement}
-use Rattle.timetable.proofs.holds.Tie as tie
+use Rattle.moments.proofs.holds.Statement.{statement}
+use Rattle.moments.proofs.holds.Tie as tie
 
 returns : tie.Need-returns
 returns c =

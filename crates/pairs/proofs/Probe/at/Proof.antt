@@ -1,9 +1,9 @@
--- `checker::Probe::at` meets its contract: the three columns are of one length. Assumes nothing.
+-- `pairs::Probe::at` meets its contract: the three columns are of one length. Assumes nothing.
 use native.Mathlib.Omega.{arith}
 use Rattle.table.specs.Laws.{sound-gives}
 use borrow.Author.Needs.{needs}
-use Rattle.checker.proofs.Probe.at.Statement.{statement}
-use Rattle.checker.proofs.Probe.at.Tie as tie
+use Rattle.pairs.proofs.Probe.at.Statement.{statement}
+use Rattle.pairs.proofs.Probe.at.Tie as tie
 
 mul-t5 : tie.Need-mul-t5
 mul-t5 c = search needs

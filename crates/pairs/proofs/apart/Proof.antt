@@ -1,10 +1,10 @@
--- `checker::apart` meets its contract: the published condition, one half at a time. Assumes nothing.
+-- `pairs::apart` meets its contract: the published condition, one half at a time. Assumes nothing.
 use native.Mathlib.Omega.{arith}
 use Rattle.wire.specs.Lag.{lag-lt}
-use Rattle.checker.specs.Steps.{apart-early, apart-is}
+use Rattle.pairs.specs.Steps.{apart-early, apart-is}
 use borrow.Author.Needs.{needs}
-use Rattle.checker.proofs.apart.Statement.{statement}
-use Rattle.checker.proofs.apart.Tie as tie
+use Rattle.pairs.proofs.apart.Statement.{statement}
+use Rattle.pairs.proofs.apart.Tie as tie
 
 lag-requires : tie.Need-lag-requires
 lag-requires c κs = search needs

@@ -11,8 +11,9 @@ use Prim.Native.Nat.{ℕ, _≤_, _<_}
 use lib.ListN.{length, getD}
 use Rattle.wire.specs.Meeting.{apart, sharedTick}
 use Rattle.table.specs.Table.{mostPeriod}
-use Rattle.checker.specs.declared.Probe.{Probe}
-use Rattle.checker.specs.Passing.{Passes, passes-gives}
+use Rattle.table.specs.Passed.{Passes}
+use Rattle.pairs.specs.declared.Probe.{Probe}
+use Rattle.pairs.specs.Range.{passes-gives}
 
 abbrev pub probeAt : List ℕ → List ℕ → List ℕ → ℕ → Probe
 probeAt Ts qs ss i = record { period = getD Ts i 0; width = getD qs i 0; start = getD ss i 0 }

@@ -1,8 +1,8 @@
--- `checker::lag` meets its contract. Assumes nothing.
-use Rattle.checker.specs.Steps.{lag-is}
+-- `pairs::lag` meets its contract. Assumes nothing.
+use Rattle.pairs.specs.Steps.{lag-is}
 use borrow.Author.Needs.{needs}
-use Rattle.checker.proofs.lag.Statement.{statement}
-use Rattle.checker.proofs.lag.Tie as tie
+use Rattle.pairs.proofs.lag.Statement.{statement}
+use Rattle.pairs.proofs.lag.Tie as tie
 
 sub-result : tie.Need-sub-result
 sub-result c = search needs
