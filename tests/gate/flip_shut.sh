@@ -1,6 +1,6 @@
 #!/bin/sh
 # Planner and checker know the flip by its laws alone: it is shut. Of the modules that open it, chain's Formula is for bench_sheet and demands, and
-# chain's Flip.Steps for the proofs of the two functions that compute it.
+# chain's Flip.Steps for the proofs of the two functions of flipping that compute it.
 . "$(dirname "$0")/common"
 look() {
     [ -d crates/chain ] || { echo "there is no crate chain"; return 0; }
@@ -8,7 +8,7 @@ look() {
     while IFS= read -r file; do
         case $file in
         crates/bench_sheet/* | crates/demands/* | crates/chain/specs/Flip.antt | crates/chain/specs/Flip/*) continue ;;
-        crates/chain/proofs/Chain/flip/* | crates/chain/proofs/Chain/unflip/*) continue ;;
+        crates/flipping/proofs/Chain/flip/* | crates/flipping/proofs/Chain/unflip/*) continue ;;
         esac
         awk '
             { sub(/(^|[ \t])(--|\/\/).*/, "") }

@@ -3,7 +3,6 @@ pub mod Reading
 pub mod Writing
 pub mod Cases
 pub mod ReadLaws
-pub mod Loading
 pub mod WriteLaws
 pub mod ReadThenWrite
 pub mod WriteThenRead

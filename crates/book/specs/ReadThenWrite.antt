@@ -24,8 +24,8 @@ use Rattle.judging.specs.BlockLaws.{same-number, RightField}
 use Rattle.filling.specs.Filling.{recordOf, recordAt, headOf, bodyOf, sumsOf, blockOf}
 use Rattle.filling.specs.FillingLaws.{length-record, length-block}
 use Rattle.book.specs.Reading.{blockAt, blocksIn, nOf, field, column}
-use Rattle.book.specs.ReadLaws.{verdictAt, RightBlock, right-block}
-use Rattle.book.specs.Loading.{block-long, length-column, column-at}
+use Rattle.loading.specs.BlocksLaws.{verdictAt, RightBlock, right-block}
+use Rattle.loading.specs.Loading.{block-long, length-column, column-at}
 use Rattle.book.specs.Writing.{bookOf}
 
 -- bytes that are not other than zero are zero

@@ -20,8 +20,9 @@ use Rattle.sheets.specs.LayoutLaws.{blocks-some, blocks-least}
 use Rattle.judging.specs.BlockLaws.{RightField}
 use Rattle.book.specs.Reading.{BadSize, badSize, blockAt, blocksIn, nOf, judgedBlocks, column, Columns, columns, ShortColumn, refusedRead, doneRead, Reads, readOf}
 use Rattle.book.specs.Writing.{bookOf, Pages, pages, refusedWrite, doneWrite, Writes, writeOf}
-use Rattle.book.specs.ReadLaws.{verdictAt, judged-right, right-judged, RightSize, size-tested, bad-size-tells, read-size, read-block, read-short, read-done, read-meets, reads-as}
-use Rattle.book.specs.Loading.{Passed, passed, length-column}
+use Rattle.loading.specs.BlocksLaws.{verdictAt, judged-right, right-judged, RightSize, size-tested, bad-size-tells}
+use Rattle.loading.specs.Loading.{Passed, passed, length-column}
+use Rattle.book.specs.ReadLaws.{read-size, read-block, read-short, read-done, read-meets, reads-as}
 use Rattle.book.specs.WriteLaws.{length-book, write-starts, write-lengths, write-many, write-short, write-done, write-meets, writes-as}
 use Rattle.book.specs.ReadThenWrite.{book-back, count-is}
 use Rattle.book.specs.WriteThenRead.{blocks-there, n-there, book-passes, periods-back, lengths-back, starts-back}

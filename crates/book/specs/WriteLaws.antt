@@ -10,7 +10,7 @@ use Prim.Native.Nat.{ℕ, _+_, _-_, _*_, _≤_, _<_}
 use native.Mathlib.Omega.{arith}
 use lib.Dec.{ltb, eqb}
 use lib.ListN.{length, take, drop}
-use lib.Seq.{sets, sets-eq, drop-drop}
+use lib.Seq.{sets, sets-eq}
 use borrow.Author.Tests.{eq-eqb, ne-eqb, lt-ltb, le-ltb}
 use Rattle.lists.specs.Pick.{pick, either, Tells}
 use Rattle.lists.specs.Telling.{tells-either, tells-not, tells-lt, tells-eq}
@@ -73,12 +73,6 @@ unfolding bookOf
 book-stored Ts ps ss out after room e =
     let long : 0 + length (bookOf firstEdition Ts ps ss) ≡ blocksOf firstEdition (length Ts) * blockBytes = omega (arith, length-book Ts ps ss) in
     e ∙ sets-eq (bookOf firstEdition Ts ps ss) out 0 (omega arith) ∙ ap (λ (n : ℕ). bookOf firstEdition Ts ps ss ++ drop n out) long
-
--- a part that a block was put into is a run of stores
-pub part-stored : (l ys : List ℕ) (a e : ℕ) → a ≤ e → length ys ≡ e - a → e ≤ length l → take a l ++ (ys ++ drop (e - a) (drop a l)) ≡ sets l a ys
-part-stored l ys a e h long room =
-    let end : a + (e - a) ≡ a + length ys = omega arith in
-    sym (sets-eq ys l a (omega arith) ∙ append-assoc (take a l) ys (drop (a + length ys) l) ∙ ap (λ (z : List ℕ). take a l ++ (ys ++ z)) (sym (drop-drop (e - a) a l ∙ ap (λ (n : ℕ). drop n l) end)))
 
 pub writes-as : (L : Layout) (Ts ps ss out : List ℕ) (o : Pages) → o ≡ writeOf L Ts ps ss out → Writes L Ts ps ss out o
 writes-as L Ts ps ss out o e = rw e (write-meets L Ts ps ss out)

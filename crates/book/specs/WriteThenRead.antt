@@ -23,8 +23,8 @@ use Rattle.judging.specs.BlockLaws.{RightField}
 use Rattle.filling.specs.Filling.{recordOf, recordAt, headOf, bodyOf, sumsOf, blockOf}
 use Rattle.filling.specs.FillingLaws.{length-record, length-head, length-sums, length-body, length-block}
 use Rattle.book.specs.Reading.{blockAt, blocksIn, nOf, field, column}
-use Rattle.book.specs.ReadLaws.{verdictAt, RightBlock, block-right}
-use Rattle.book.specs.Loading.{length-column, column-at}
+use Rattle.loading.specs.BlocksLaws.{verdictAt, RightBlock, block-right}
+use Rattle.loading.specs.Loading.{length-column, column-at}
 use Rattle.book.specs.Writing.{bookOf}
 use Rattle.book.specs.WriteLaws.{length-book}
 

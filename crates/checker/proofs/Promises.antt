@@ -7,6 +7,7 @@ use Prim.Native.Nat.{ℕ, _≤_, _<_}
 use native.Mathlib.Omega.{arith}
 use lib.ListN.{length, getD}
 use Rattle.lists.specs.Pick.{In, in-left, in-right}
+use Rattle.lists.specs.Standing.{stands, not-in}
 use Rattle.lists.specs.Lowest.{Lowest}
 use Rattle.lists.specs.Refusals.{First, Silents, first-unique, first-numbers, first-rest, rest-first, first-silents, first-append}
 use Rattle.words.specs.declared.Answer.{Answer}
@@ -17,7 +18,7 @@ use Rattle.table.specs.Table.{widths, Sound, Late, lateLine, lines, DifferThree
 use Rattle.table.specs.Laws.{sound-gives, mark-late}
 use Rattle.checker.specs.Check.{Judged, Checks, checked}
 use Rattle.table.specs.Widths.{widths-none}
-use Rattle.checker.specs.Passing.{Passes, silent-passes, passes-silent, passes-gives, sound-silent, list-never-done}
+use Rattle.checker.specs.Passing.{Passes, silent-passes, passes-silent, passes-gives, sound-silent}
 use Rattle.checker.specs.Laws.{judged-unique, checked-meets}
 
 module _ (Ts ps ss : List ℕ) where
@@ -36,13 +37,15 @@ module _ (Ts ps ss : List ℕ) where
 
   -- 0 exactly when the list passes 1 to 6 and 9, and is clean at every tick there is
   pub check-sound : Checks Ts ps ss done → Passes Ts ps ss × Clean Ts ps ss
-  unfolding Checks Judged
+  unfolding Checks Judged stands
   check-sound v = (silent-passes Ts ps ss silent, ⊎-elim (λ c. rw (widths-none ps) at (c .0)) (λ m. absurd (omega (arith, ap (λ (r : Answer). r .number) (m .4)))) rest)
     where
       silent : Silents (listLines Ts ps ss)
       silent =
           first-silents (listLines Ts ps ss) refused (Judged Ts (widths 0 ps) ss) done
-          (λ k i h e. list-never-done Ts ps ss k i h (ap (λ (r : Answer). r .number) e))
+          (λ k i h e.
+          let z : 0 ≡ k = ap (λ (r : Answer). r .number) e in
+          not-in 0 (1 ∷ 2 ∷ 3 ∷ 4 ∷ 5 ∷ 6 ∷ 9 ∷ []) refl (rw (← z) at h))
           v
 
       rest : Judged Ts (widths 0 ps) ss done

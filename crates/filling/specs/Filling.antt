@@ -1,6 +1,6 @@
--- THE BYTES OF A BLOCK THAT IS WRITTEN. Document 01, "The book": "Then 41 records of 12 bytes: period, length, start. At 504 the sum of bytes 0 to 503; at 508 the sum of (place + 1) times
+-- THE BYTES OF A BLOCK THAT IS WRITTEN. Document 01, "The book": "At 504 the sum of bytes 0 to 503; at 508 the sum of (place + 1) times
 -- byte over the same bytes .. unused records are zero."
---     recordAt Ts ps ss i        the bytes of record i
+--     recordAt Ts ps ss i        the bytes of record i (records, specs/Records)
 --     headOf L n b               bytes 0 to 11 of block b
 --     bodyOf L Ts ps ss b        bytes 0 to 503 of block b
 --     sumsOf body                the two sums
@@ -8,16 +8,11 @@
 -- Assumes nothing.
 use mathlib.Core.List.{List, _++_}
 use Prim.Native.Nat.{ℕ, _-_, _*_}
-use lib.ListN.{length, getD, replicate}
+use lib.ListN.{length, replicate}
 use Rattle.sheets.specs.Bytes.{bytes, byteSum, placeSum}
 use Rattle.sheets.specs.Layout.{Layout, blocksOf, recordsOf}
 use Rattle.sheets.specs.Runs.{runFrom}
-
-unfoldable pub recordOf : ℕ → ℕ → ℕ → List ℕ
-recordOf T p s = bytes 4 T ++ (bytes 4 p ++ bytes 4 s)
-
-unfoldable pub recordAt : List ℕ → List ℕ → List ℕ → ℕ → List ℕ
-recordAt Ts ps ss i = recordOf (getD Ts i 0) (getD ps i 0) (getD ss i 0)
+unfoldable pub use Rattle.records.specs.Records.{recordOf, recordAt}
 
 unfoldable pub headOf : Layout → ℕ → ℕ → List ℕ
 headOf L n b = bytes 2 b ++ (bytes 2 (blocksOf L n) ++ (bytes 2 (recordsOf L n b) ++ (bytes 2 n ++ bytes 4 0)))

@@ -1,7 +1,7 @@
 -- LAWS OF A BLOCK THAT IS WRITTEN.
 --     length-record, length-head, length-body, length-block   how many bytes each has
---     record-stored         three numbers, stored one after another, are a record
 --     zeros-store           a loop that stores zeros
+--     part-stored           a part that a block was put into
 --     filled                head, records, zeros and sums, stored one after another, are the block
 -- Assumes nothing.
 use mathlib.Core.Path.{_≡_, refl, sym, ap, _∙_}
@@ -10,16 +10,13 @@ use Prim.Native.Nat.{ℕ, zero, suc, _+_, _-_, _*_, _≤_, _<_}
 use native.Mathlib.Numerals.{add-one}
 use native.Mathlib.Omega.{arith}
 use lib.ListN.{length, take, drop, set, replicate, length-append, length-replicate, replicate-append-replicate, drop-of-length-le}
-use lib.Seq.{sets, sets-eq, take-at}
+use lib.Seq.{sets, sets-eq, take-at, drop-drop}
 use Rattle.sheets.specs.Bytes.{bytes, byteSum, placeSum}
 use Rattle.sheets.specs.Layout.{firstEdition, blockBytes, headBytes, sumPlace, blocksOf, recordsOf}
 use Rattle.sheets.specs.Runs.{runFrom, length-run, sets-on}
 use Rattle.sheets.specs.LayoutLaws.{records-most}
 use Rattle.filling.specs.Filling.{recordOf, recordAt, headOf, bodyOf, sumsOf, blockOf}
-
-pub length-record : (Ts ps ss : List ℕ) (i : ℕ) → length (recordAt Ts ps ss i) ≡ firstEdition .recordBytes
-unfolding bytes recordOf recordAt
-length-record Ts ps ss i = refl
+pub use Rattle.records.specs.RecordLaws.{length-record}
 
 pub length-head : (n b : ℕ) → length (headOf firstEdition n b) ≡ headBytes
 unfolding bytes headOf
@@ -28,14 +25,6 @@ length-head n b = refl
 pub length-sums : (body : List ℕ) → length (sumsOf body) ≡ 8
 unfolding bytes sumsOf
 length-sums body = refl
-
--- three numbers stored one after another are a record
-pub record-stored : (l₀ l₁ l₂ l₃ : List ℕ) (at T p s : ℕ) → l₁ ≡ sets l₀ at (bytes 4 T) → l₂ ≡ sets l₁ (at + 4) (bytes 4 p) → l₃ ≡ sets l₂ (at + 8) (bytes 4 s)
-    → l₃ ≡ sets l₀ at (recordOf T p s)
-unfolding bytes recordOf
-record-stored l₀ l₁ l₂ l₃ at T p s e f g =
-    rw (g, f, e)
-    (rw (sets-on l₀ at (at + 4) (bytes 4 T) (bytes 4 p) refl) (sets-on l₀ at (at + 8) (bytes 4 T ++ bytes 4 p) (bytes 4 s) refl))
 
 -- a turn of a loop that stores zeros
 pub zeros-store : (l₀ l : List ℕ) (at k place : ℕ) → l ≡ sets l₀ at (replicate k 0) → place ≡ at + k → set l place 0 ≡ sets l₀ at (replicate (k + 1) 0)
@@ -99,3 +88,9 @@ module _ (Ts ps ss : List ℕ) (b : ℕ) where
         ∙ sets-eq (blockOf firstEdition Ts ps ss b) l₀ 0 (omega (arith, length-block))
         ∙ ap (λ (z : List ℕ). blockOf firstEdition Ts ps ss b ++ z) (drop-of-length-le l₀ {i = 0 + length (blockOf firstEdition Ts ps ss b)} (omega (arith, length-block)))
         ∙ append-nil (blockOf firstEdition Ts ps ss b))
+
+-- a part that a block was put into is a run of stores
+pub part-stored : (l ys : List ℕ) (a e : ℕ) → a ≤ e → length ys ≡ e - a → e ≤ length l → take a l ++ (ys ++ drop (e - a) (drop a l)) ≡ sets l a ys
+part-stored l ys a e h long room =
+    let end : a + (e - a) ≡ a + length ys = omega arith in
+    sym (sets-eq ys l a (omega arith) ∙ append-assoc (take a l) ys (drop (a + length ys) l) ∙ ap (λ (z : List ℕ). take a l ++ (ys ++ z)) (sym (drop-drop (e - a) a l ∙ ap (λ (n : ℕ). drop n l) end)))

@@ -1,4 +1,4 @@
-// The bytes of a block that is written.
+// The bytes of the blocks that are written.
 ghost use mathlib.Core.Path.{_≡_};
 ghost use Prim.Native.Nat.{ℕ, _+_, _-_, _*_, _≤_, _<_};
 ghost use lib.ListN.{length, take, replicate};
@@ -7,32 +7,10 @@ ghost use Rattle.sheets.specs.Bytes.{bytes};
 ghost use Rattle.sheets.specs.Layout.{firstEdition, blockBytes, headBytes, sumPlace, mostN, blocksOf, recordsOf};
 ghost use Rattle.sheets.specs.Runs.{runFrom};
 ghost use Rattle.filling.specs.Filling.{recordOf, recordAt, headOf, sumsOf, blockOf};
+use records::put_records;
+use records::put2;
+use records::put4;
 use sheets::Book;
-
-// Two bytes of x at a place, least first.
-fn put2(block: &mut [u8], at: usize, x: usize)
-    requires { ⌜ at + 2 ≤ length (now block) ⌝ }
-    ensures { λ r. ⌜ now (block .exit) ≡ sets (now (block .entry)) at (bytes 2 x) ⌝ }
-{
-    block[at] = (x % Book::BYTE) as u8;
-    let high = x / Book::BYTE;
-    block[at + 1] = (high % Book::BYTE) as u8;
-}
-
-// Four bytes of x at a place, least first.
-pub fn put4(block: &mut [u8], at: usize, x: u32)
-    requires { ⌜ at + 4 ≤ length (now block) ⌝ }
-    ensures { λ r. ⌜ now (block .exit) ≡ sets (now (block .entry)) at (bytes 4 x) ⌝ }
-{
-    let byte = Book::BYTE as u32;
-    let second = x / byte;
-    let third = second / byte;
-    let high = third / byte;
-    block[at] = (x % byte) as u8;
-    block[at + 1] = (second % byte) as u8;
-    block[at + 2] = (third % byte) as u8;
-    block[at + 3] = (high % byte) as u8;
-}
 
 // Bytes 0 to 11 of block b of n probes.
 fn put_head(block: &mut [u8], n: usize, b: usize)
@@ -48,46 +26,6 @@ fn put_head(block: &mut [u8], n: usize, b: usize)
     put2(block, 4, records);
     put2(block, 6, n);
     put4(block, 8, 0);
-}
-
-// The bytes of one record: period, length, start.
-fn put_record(block: &mut [u8], at: usize, period: u32, read: u32, start: u32)
-    requires { ⌜ at + firstEdition .recordBytes ≤ length (now block) ⌝ }
-    ensures { λ r. ⌜ now (block .exit) ≡ sets (now (block .entry)) at (recordOf period read start) ⌝ }
-{
-    put4(block, at, period);
-    put4(block, at + 4, read);
-    put4(block, at + 8, start);
-}
-
-// k records from record `first` on, from where the records of a block begin.
-fn put_records(
-    block: &mut [u8],
-    periods: &[u32],
-    lengths: &[u32],
-    starts: &[u32],
-    first: usize,
-    k: usize,
-)
-    requires { ⌜ length (now block) ≡ blockBytes ⌝ }
-    requires { ⌜ k ≤ firstEdition .records ⌝ }
-    requires { ⌜ first + k ≤ length (now periods) ⌝ }
-    requires { ⌜ first + k ≤ length (now lengths) ⌝ }
-    requires { ⌜ first + k ≤ length (now starts) ⌝ }
-    ensures { λ r. ⌜ now (block .exit) ≡ sets (now (block .entry)) headBytes (runFrom (recordAt (now (periods .entry)) (now (lengths .entry)) (now (starts .entry))) first k) ⌝ }
-{
-    let mut j = 0;
-    while j < k {
-        let i = first + j;
-        put_record(
-            block,
-            Book::HEAD + j * Book::RECORD,
-            periods[i],
-            lengths[i],
-            starts[i],
-        );
-        j += 1;
-    }
 }
 
 // Zeros from a place up to where the sums stand.
@@ -115,7 +53,7 @@ fn put_sums(block: &mut [u8])
 }
 
 // Block b of the book of three columns.
-pub fn put_block(block: &mut [u8], periods: &[u32], lengths: &[u32], starts: &[u32], b: usize)
+fn put_block(block: &mut [u8], periods: &[u32], lengths: &[u32], starts: &[u32], b: usize)
     requires { ⌜ length (now block) ≡ blockBytes ⌝ }
     requires { ⌜ length (now periods) ≤ mostN ⌝ }
     requires { ⌜ length (now periods) ≡ length (now lengths) ⌝ }
@@ -129,4 +67,22 @@ pub fn put_block(block: &mut [u8], periods: &[u32], lengths: &[u32], starts: &[u
     put_records(block, periods, lengths, starts, b * Book::RECORDS, k);
     put_zeros(block, Book::HEAD + k * Book::RECORD);
     put_sums(block);
+}
+
+// The blocks of the book of three columns, one after another.
+pub fn put_blocks(periods: &[u32], lengths: &[u32], starts: &[u32], blocks: usize, out: &mut [u8])
+    requires { ⌜ length (now periods) ≤ mostN ⌝ }
+    requires { ⌜ length (now periods) ≡ length (now lengths) ⌝ }
+    requires { ⌜ length (now periods) ≡ length (now starts) ⌝ }
+    requires { ⌜ blocks ≡ blocksOf firstEdition (length (now periods)) ⌝ }
+    requires { ⌜ blocks * blockBytes ≤ length (now out) ⌝ }
+    ensures { λ r. ⌜ now (out .exit) ≡ sets (now (out .entry)) 0 (runFrom (blockOf firstEdition (now (periods .entry)) (now (lengths .entry)) (now (starts .entry))) 0 blocks) ⌝ }
+{
+    let mut b = 0;
+    while b < blocks {
+        let from = b * Book::BLOCK;
+        let to = from + Book::BLOCK;
+        put_block(&mut out[from..to], periods, lengths, starts, b);
+        b += 1;
+    }
 }

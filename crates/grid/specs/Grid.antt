@@ -15,7 +15,7 @@ use Rattle.lists.specs.Pick.{either}
 use Rattle.lists.specs.Harmonic.{Harmonic}
 use Rattle.table.specs.declared.Table.{Table}
 use Rattle.table.specs.Table.{mostPeriod, mostRows, shortest, longest, rows, height}
-use Rattle.chain.specs.declared.Chain.{Chain}
+use Rattle.flipping.specs.declared.Chain.{Chain}
 use Rattle.chain.specs.Ratios.{ratios, twelve}
 use Rattle.chain.specs.Corners.{cornerX, cornerY, startOf, OffGrid}
 

@@ -15,9 +15,10 @@ use lib.ListN.{length, getD}
 use Rattle.lists.specs.Pick.{Tells, either}
 use Rattle.lists.specs.Telling.{tells-either, tells-not, tells-le, tells-divides, tells-true, tells-false}
 use Rattle.table.specs.declared.Table.{Table}
-use Rattle.table.specs.Table.{mostPeriod, mostRows, shortest, longest, rows, height}
+use Rattle.table.specs.Table.{mostPeriod, mostRows, shortest, longest, rows, height, Sound}
+use Rattle.table.specs.Laws.{sound-gives}
 use Rattle.table.specs.Heights.{shortest-positive, height-positive, rows-slots, slots-times}
-use Rattle.chain.specs.declared.Chain.{Chain}
+use Rattle.flipping.specs.declared.Chain.{Chain}
 use Rattle.chain.specs.Flip.{flip, unflip}
 use Rattle.chain.specs.Flip.Laws.{flip-below}
 use Rattle.chain.specs.Ratios.{ratios, twelve}
@@ -123,3 +124,9 @@ module _ (Ts : List ℕ) (t : Table) (c : Chain) (p : Prepared Ts t c) (xs ys : 
 -- a corner that number 18 lets through
 pub on-grid-of : (Ts xs ys : List ℕ) (i : ℕ) → offGrid Ts xs ys i ≡ false → OnGrid Ts (getD Ts i 0) (getD xs i 0) (getD ys i 0)
 on-grid-of Ts xs ys i e = grid-complete Ts (getD Ts i 0) (getD xs i 0) (getD ys i 0) (off-grid-tells Ts xs ys i .no e)
+
+-- a sound table with its w, M, H and chain
+pub prepared-of : (Ts ps : List ℕ) (t : Table) (c : Chain) → Sound Ts ps → t ≡ tableOf Ts → c ≡ chainOf Ts → Prepared Ts t c
+prepared-of Ts ps t c s e f =
+    let g = sound-gives Ts ps s in
+    record { harmonic = g .harmonic; most = g .most; low = g .low; table-is = e; chain-is = f }

@@ -7,7 +7,7 @@ ghost use Rattle.lists.specs.Counted.{filled};
 ghost use Rattle.chain.specs.Corners.{cornerX, cornerY, startOf};
 ghost use Rattle.chain.specs.CornerLaws.{OnGrid};
 ghost use Rattle.grid.specs.Grid.{Prepared, xAt, yAt, startAt, offGrid};
-use chain::Chain;
+use flipping::Chain;
 use table::Table;
 
 // The lower left corner of a read's rectangle.

@@ -1,5 +1,6 @@
 pub mod Pick
 pub mod Telling
+pub mod Standing
 pub mod Lowest
 pub mod Refusals
 pub mod Answering

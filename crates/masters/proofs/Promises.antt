@@ -20,7 +20,7 @@ use Rattle.words.specs.Ticks.{TooLate}
 use Rattle.table.specs.Table.{widths}
 use Rattle.sheets.specs.Layout.{firstEdition, mostN}
 use Rattle.book.specs.Reading.{nOf, column, Columns, Reads}
-use Rattle.book.specs.Loading.{length-column}
+use Rattle.loading.specs.Loading.{length-column}
 use Rattle.checker.specs.Check.{Judged, Checks}
 use Rattle.timetable.specs.Timetable.{askLines, HeldBy, Holder, NextStart, NextFrom}
 use Rattle.replies.specs.declared.Question.{Question}

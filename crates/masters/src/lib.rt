@@ -30,11 +30,11 @@ fn tell(said: Answer, answer: &mut [u8]) -> u32
     let tick = said.tick;
     let low = (tick % 4_294_967_296) as u32;
     let high = (tick / 4_294_967_296) as u32;
-    filling::put4(answer, 0, said.number);
-    filling::put4(answer, 4, said.index);
-    filling::put4(answer, 8, said.second);
-    filling::put4(answer, 12, low);
-    filling::put4(answer, 16, high);
+    records::put4(answer, 0, said.number);
+    records::put4(answer, 4, said.index);
+    records::put4(answer, 8, said.second);
+    records::put4(answer, 12, low);
+    records::put4(answer, 16, high);
     said.number
 }
 

@@ -3,14 +3,14 @@
 --     corners-end, starts-end, plan-end        a refusal leaves the columns; else they are what the definitions say
 -- Assumes nothing.
 use mathlib.Core.Path.{_≡_, refl, sym, ap, _∙_}
-use mathlib.Core.Logic.{_⊎_, inl, inr, _≢_}
+use mathlib.Core.Logic.{_⊎_, inl, inr}
 use mathlib.Core.Bool.{Bool, true, false}
 use mathlib.Core.List.{List, [], _∷_, _++_}
 use Prim.Native.Nat.{ℕ, _≤_, _<_}
-use native.Mathlib.Decide.{decLe, ℕ-discrete}
 use native.Mathlib.Omega.{arith}
 use lib.ListN.{length, getD, drop, replicate}
 use Rattle.lists.specs.Pick.{In}
+use Rattle.lists.specs.Standing.{stands, not-in}
 use Rattle.lists.specs.Refusals.{Line, Silent, Silents, line, whole, first-silents, first-rest}
 use Rattle.lists.specs.Answering.{Found, firstOf}
 use Rattle.lists.specs.Counted.{filled}
@@ -18,6 +18,7 @@ use Rattle.words.specs.declared.Answer.{Answer}
 use Rattle.words.specs.Answers.{refused, done}
 use Rattle.table.specs.Table.{Differ, DifferThree, lines, lateLine, Sound, rows, widths}
 use Rattle.table.specs.Widths.{widths-none}
+use Rattle.table.specs.Passed.{silent-if, silents-left, silents-right, sound-with, below-of, at-most, equal}
 use Rattle.table.specs.Composing.{Numbered, compose-done, compose-refused, refusal-is}
 use Rattle.chain.specs.CornerLaws.{OnGrid, grid-complete}
 use Rattle.grid.specs.Grid.{xAt, yAt, startAt, OffGridAt}
@@ -25,22 +26,8 @@ use Rattle.order.specs.Order.{order}
 use Rattle.stack.specs.FirstFit.{Outcome, outcome, fitted, planLines, planFindings, refusedPlan, placed, planned}
 use Rattle.packing.specs.Converting.{Corners, corners, cornerLines, cornerFindings, refusedCorners, doneCorners, ToCorners, cornersOf, DifferFour, Starts, asStarts, startLines, startFindings, refusedStarts, doneStarts, ToStarts, startsOf}
 use Rattle.packing.specs.Plan.{Plans}
-use Rattle.packing.specs.Checks.{corner-numbered, corner-find, corners-meet, start-numbered, start-find, starts-meet, plan-numbered, plan-find, planned-meets}
-use Rattle.packing.specs.Sound.{silent-if, silents-left, silents-right, stands, not-in, sound-with, below-of}
-
-at-most : (m x : ℕ) → (x < m → ⊥) → m ≤ x
-at-most m x n = by (decLe m x)
-  where
-    by : Dec (m ≤ x) → m ≤ x
-    by (yes h) = h
-    by (no h) = absurd (n (omega arith))
-
-equal : (m n : ℕ) → (m ≢ n → ⊥) → m ≡ n
-equal m n k = by (ℕ-discrete m n)
-  where
-    by : Dec (m ≡ n) → m ≡ n
-    by (yes e) = e
-    by (no e) = absurd (k e)
+use Rattle.admitting.specs.Checks.{corner-numbered, corner-find, start-numbered, start-find, plan-numbered, plan-find}
+use Rattle.packing.specs.Checks.{corners-meet, starts-meet, planned-meets}
 
 module _ {O : Type 0} (fs : List Found) (refuse : ℕ → ℕ → O) (o : O) (a : Answer) (e : a ≡ firstOf fs refused done) where
   refused-end : (wrap : Answer → O) → ((k i : ℕ) → refuse k i ≡ wrap (refused k i)) → (a .number ≡ 0 → ⊥) → wrap a ≡ firstOf fs refuse o

@@ -24,7 +24,8 @@ use Rattle.words.specs.Answers.{refused}
 use Rattle.table.specs.Table.{mostProbes, mostRows}
 use Rattle.sheets.specs.Layout.{firstEdition, blockBytes, mostN}
 use Rattle.book.specs.Reading.{badSize, Columns, columns, Reads, readOf}
-use Rattle.book.specs.ReadLaws.{bad-size-tells, read-size}
+use Rattle.book.specs.ReadLaws.{read-size}
+use Rattle.loading.specs.BlocksLaws.{bad-size-tells}
 use Rattle.stack.specs.FirstFit.{Outcome}
 use Rattle.packing.specs.Plan.{Plans}
 use Rattle.replies.specs.declared.Question.the-variants.{IsClean}

@@ -19,8 +19,8 @@ use Rattle.words.specs.declared.Answer.{Answer}
 use Rattle.words.specs.Answers.{refused}
 use Rattle.sheets.specs.Layout.{firstEdition, blockBytes, mostN}
 use Rattle.book.specs.Reading.{BadSize, blocksIn, nOf, blockLines, column, Columns, ShortColumn, refusedRead, doneRead, Reads}
-use Rattle.book.specs.ReadLaws.{RightSize, right-size}
-use Rattle.book.specs.Loading.{length-column}
+use Rattle.loading.specs.BlocksLaws.{RightSize, right-size}
+use Rattle.loading.specs.Loading.{length-column}
 use Rattle.replies.specs.Carrying.{Refused, first-split, first-carry}
 use Rattle.replies.specs.Replies.{bookLines, periodsIn, lengthsIn, startsIn}
 

@@ -1,118 +1,29 @@
--- LAWS FOR PLACING ONE PROBE AND ALL OF THEM.
---     row-in, row-out       the row that the search gives, and whether a sub-bin had room
---     row-grid, row-fits    it is a corner of the grid, and its h rows are rows
+-- LAWS FOR PLACING ALL PROBES.
 --     Seating ..            what the loop over the planning order knows: what first fit says of the rest is what it says of all
+--     stuck-end, done-end   its ways out
 --     Marking ..            what the loop that writes the marks knows
 -- Assumes nothing.
 use mathlib.Core.Path.{_≡_, refl, sym, ap, _∙_}
 use mathlib.Core.Bool.{Bool, true, false}
 use mathlib.Core.List.{List, [], _∷_}
-use Prim.Native.Nat.{ℕ, zero, suc, _+_, _-_, _*_, _/_, _≤_, _<_, _∣_}
-use native.Mathlib.Nat.{dvd-mul-right, dvd-mul-left, mul-comm, mul-div-cancel-left, mul-le-mul-right, lt-of-mul-lt-mul-right, add-mul, one-mul, suc-mul, le-mul-of-pos-right}
+use Prim.Native.Nat.{ℕ, suc, _+_, _*_, _≤_, _<_}
+use native.Mathlib.Nat.{mul-le-mul-right, add-mul, one-mul, suc-mul}
 use native.Mathlib.Numerals.{add-one}
-use native.Mathlib.Decide.{decLt, decLe}
+use native.Mathlib.Decide.{decLt}
 use native.Mathlib.Omega.{arith}
-use lib.Dec.{ltb}
-use lib.ListN.{length, getD, set, take, drop, length-set, length-take, drop-of-length-le}
-use lib.Seq.{drop-cons, getD-take, length-take-le}
+use lib.ListN.{length, getD, set, take, drop, length-set, drop-of-length-le}
+use lib.Seq.{drop-cons, getD-take}
 use borrow.Author.Tests.{lt-ltb, le-ltb, ltb-true, ltb-false}
-use Rattle.lists.specs.Pick.{pick}
-use Rattle.lists.specs.Lowest.{Lowest}
 use Rattle.words.specs.declared.Answer.{Answer}
 use Rattle.words.specs.Answers.{refused, done, mark}
-use Rattle.table.specs.declared.Table.{Table}
-use Rattle.table.specs.Table.{mostPeriod, mostRows, shortest, rows, height}
-use Rattle.table.specs.Extremes.{shortest-least}
-use Rattle.table.specs.Heights.{height-positive, rows-slots, slots-times}
-use Rattle.chain.specs.declared.Chain.{Chain}
-use Rattle.chain.specs.CornerLaws.{OnGrid}
+use Rattle.table.specs.Table.{mostPeriod, rows, height}
 use Rattle.order.specs.Order.{order}
 use Rattle.order.specs.Listed.{order-length}
-use Rattle.grid.specs.Grid.{Prepared}
-use Rattle.stack.specs.Stack.{raised, Fits, bins, lowestBin}
-use Rattle.stack.specs.FirstFit.{Outcome, outcome, marked, binOf, startIn, fitted}
+use Rattle.stack.specs.Stack.{raised, bins}
+use Rattle.stack.specs.FirstFit.{outcome, marked, binOf, startIn, fitted}
+use Rattle.stack.specs.Fitting.{length-marked}
 use Rattle.stack.specs.Rows.{length-raised, raised-below, raised-in, raised-above}
-use Rattle.stack.specs.Fitting.{lowest-bin}
-use Rattle.seating.specs.Seating.{Ready, Tried}
-
-module _ (Ts ps : List ℕ) (t : Table) (c : Chain) (ss fs : List ℕ) (i : ℕ) (g : Ready Ts ps t c ss fs i) where
-  abbrev tall : ℕ
-  tall = height Ts (getD Ts i 0)
-
-  pub tall-positive : 0 < height Ts (getD Ts i 0)
-  tall-positive = height-positive Ts (g .prepared .harmonic) i (g .probe)
-
-  pub read-small : getD ps i 0 ≤ mostPeriod
-  read-small = omega (arith, g .short, shortest-least Ts i (g .probe), g .prepared .most i (g .probe))
-
-  pub tall-small : height Ts (getD Ts i 0) ≤ mostRows
-  tall-small = omega (arith, g .prepared .low, rows-slots Ts (g .prepared .harmonic) i (g .probe), le-mul-of-pos-right tall (slotted (getD Ts i 0 / shortest Ts) (slots-times Ts (g .prepared .harmonic) i (g .probe))))
-    where
-      slotted : (x : ℕ) → shortest Ts * x ≡ getD Ts i 0 → 0 < x
-      slotted zero e = absurd (omega (arith, g .prepared .harmonic .positive i (g .probe)))
-      slotted (suc x) e = omega arith
-
-  rows-are : length fs ≡ tall * (getD Ts i 0 / shortest Ts)
-  rows-are = g .long ∙ rows-slots Ts (g .prepared .harmonic) i (g .probe)
-
-  pub tall-divides : height Ts (getD Ts i 0) ∣ length fs
-  tall-divides = rw rows-are (dvd-mul-right tall (getD Ts i 0 / shortest Ts))
-
-  bins-are : bins fs tall * tall ≡ length fs
-  unfolding bins
-  bins-are = ap (λ (x : ℕ). x / tall * tall) rows-are ∙ ap (λ (x : ℕ). x * tall) (mul-div-cancel-left (getD Ts i 0 / shortest Ts) tall-positive) ∙ mul-comm (getD Ts i 0 / shortest Ts) tall ∙ sym rows-are
-
-  bin : ℕ
-  bin = binOf Ts ps i fs
-
-  found : Lowest (Fits fs tall (getD ps i 0) (shortest Ts)) (bins fs tall) (binOf Ts ps i fs)
-  unfolding binOf
-  found = lowest-bin fs tall (getD ps i 0) (shortest Ts)
-
-  pub row-bin : (y : ℕ) → y ≡ lowestBin fs (height Ts (getD Ts i 0)) (getD ps i 0) (shortest Ts) * height Ts (getD Ts i 0) → y ≡ binOf Ts ps i fs * height Ts (getD Ts i 0)
-  unfolding binOf
-  row-bin y e = e
-
-  module _ (y : ℕ) (e : y ≡ binOf Ts ps i fs * height Ts (getD Ts i 0)) where
-    pub row-in : y < length fs → binOf Ts ps i fs < bins fs (height Ts (getD Ts i 0))
-    row-in l = lt-of-mul-lt-mul-right tall (rw bins-are (rw e at l))
-
-    pub row-out : length fs ≤ y → bins fs (height Ts (getD Ts i 0)) ≤ binOf Ts ps i fs
-    row-out l = by (decLe (bins fs tall) (binOf Ts ps i fs))
-      where
-        by : Dec (bins fs tall ≤ binOf Ts ps i fs) → bins fs tall ≤ binOf Ts ps i fs
-        by (yes o) = o
-        by (no o) =
-            let less : suc (binOf Ts ps i fs) ≤ bins fs tall = omega arith in
-            absurd (omega (arith, bins-are, mul-le-mul-right tall less, suc-mul (binOf Ts ps i fs) tall, tall-positive))
-
-    module _ (l : y < length fs) where
-      fit : getD fs y 0 + getD ps i 0 ≤ shortest Ts
-      fit = rw e (found .found (row-in l))
-
-      pub row-fits : y + height Ts (getD Ts i 0) ≤ length fs
-      row-fits =
-          let less : suc (binOf Ts ps i fs) ≤ bins fs tall = row-in l in
-          omega (arith, bins-are, mul-le-mul-right tall less, suc-mul (binOf Ts ps i fs) tall)
-
-      pub row-grid : OnGrid Ts (getD Ts i 0) (getD fs y 0) y
-      row-grid = record { wide = omega (arith, fit, g .some); aligned = rw e (dvd-mul-left tall (binOf Ts ps i fs)); high = omega (arith, g .long) }
-
-      pub row-tried : (s : ℕ) (gs : List ℕ) → s ≡ Rattle.chain.specs.Corners.startOf Ts (getD Ts i 0) (getD fs y 0) y → gs ≡ raised fs y (height Ts (getD Ts i 0)) (getD ps i 0)
-          → Tried Ts ps ss fs i true (set ss i s) gs
-      unfolding startIn
-      row-tried s gs es eg = record {
-        verdict = sym (lt-ltb (binOf Ts ps i fs) (bins fs tall) (row-in l));
-        placed = λ z. (rw (es, e), rw (eg, e));
-        stayed = λ z. absurd (Rattle.lists.specs.Telling.true-or-false true refl z);
-      }
-
-    pub row-stuck : length fs ≤ y → Tried Ts ps ss fs i false ss fs
-    row-stuck l = record {
-      verdict = sym (le-ltb (binOf Ts ps i fs) (bins fs tall) (row-out l));
-      placed = λ z. absurd (Rattle.lists.specs.Telling.true-or-false false z refl);
-      stayed = λ z. (refl, refl);
-    }
+use Rattle.placing.specs.Placing.{Tried}
 
 -- a raised row is at most p higher
 raised-most : (fs : List ℕ) (y h q : ℕ) → y + h ≤ length fs → (r : ℕ) → getD (raised fs y h q) r 0 ≤ getD fs r 0 + q
@@ -183,6 +94,23 @@ module _ (Ts ps ss₀ fs₀ ss fs : List ℕ) (k : ℕ) (g : Seating Ts ps ss₀
 pub seating-done : (Ts ps ss₀ fs₀ ss fs : List ℕ) (k : ℕ) → length Ts ≤ k → Seating Ts ps ss₀ fs₀ ss fs k → outcome done ss fs ≡ fitted Ts ps (order Ts ps) ss₀ fs₀
 unfolding fitted
 seating-done Ts ps ss₀ fs₀ ss fs k h g = rw (drop-of-length-le (order Ts ps) {i = k} (rw (order-length Ts ps) h)) at (g .rest)
+
+-- the loop's two ways out
+pub stuck-end : (Ts ps arr ss₀ fs₀ ss fs : List ℕ) (k : ℕ) → take (length Ts) arr ≡ order Ts ps → (g : Seating Ts ps ss₀ fs₀ ss fs k) → k < length Ts → (i : ℕ) → i ≡ getD (order Ts ps) k 0
+    → (r : Bool) (zs gs : List ℕ) → Tried Ts ps ss fs i r zs gs → r ≡ false → (a : Answer) (us : List ℕ) → a ≡ refused 8 i → us ≡ marked (drop k (take (length Ts) arr)) zs
+    → outcome a us gs ≡ fitted Ts ps (order Ts ps) ss₀ fs₀
+stuck-end Ts ps arr ss₀ fs₀ ss fs k o g l i e r zs gs t z a us ea eu =
+    rw (ea, eu, o, t .stayed z .0, t .stayed z .1) (seating-stuck Ts ps ss₀ fs₀ ss fs k g l i e r zs gs t z)
+
+pub done-end : (Ts ps ss₀ fs₀ ss fs : List ℕ) (k : ℕ) → length Ts ≤ k → Seating Ts ps ss₀ fs₀ ss fs k → (a : Answer) → a ≡ done → outcome a ss fs ≡ fitted Ts ps (order Ts ps) ss₀ fs₀
+done-end Ts ps ss₀ fs₀ ss fs k h g a ea = rw ea (seating-done Ts ps ss₀ fs₀ ss fs k h g)
+
+-- the columns keep their lengths
+pub marked-long : (ks zs us ss ss₀ : List ℕ) → us ≡ marked ks zs → zs ≡ ss → length ss ≡ length ss₀ → length us ≡ length ss₀
+marked-long ks zs us ss ss₀ e f g = ap length e ∙ length-marked ks zs ∙ ap length f ∙ g
+
+pub rows-long : (gs fs fs₀ : List ℕ) (h : ℕ) → gs ≡ fs → length fs ≡ h → length fs₀ ≡ h → length gs ≡ length fs₀
+rows-long gs fs fs₀ h e f g = ap length e ∙ f ∙ sym g
 
 -- the order as the code holds it, in the first n of its places
 pub order-entry : (Ts ps arr : List ℕ) (k : ℕ) → take (length Ts) arr ≡ order Ts ps → k < length Ts → getD arr k 0 ≡ getD (order Ts ps) k 0

@@ -1,2 +1,1 @@
-pub mod Seating
 pub mod Laws

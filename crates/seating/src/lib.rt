@@ -3,42 +3,14 @@ ghost use mathlib.Core.Path.{_≡_};
 ghost use mathlib.Core.List.{List};
 ghost use Prim.Native.Nat.{ℕ, _≤_, _<_};
 ghost use lib.ListN.{length, getD, take, drop};
-ghost use Rattle.table.specs.Table.{mostProbes, rows, shortest, mostPeriod};
+ghost use Rattle.table.specs.Table.{mostProbes, rows, shortest};
 ghost use Rattle.order.specs.Order.{order};
 ghost use Rattle.grid.specs.Grid.{Prepared};
 ghost use Rattle.stack.specs.FirstFit.{outcome, marked, fitted};
-ghost use Rattle.seating.specs.Seating.{Ready, Tried};
-use chain::Chain;
+use flipping::Chain;
+use placing::place;
 use table::Table;
 use words::Answer;
-
-// Puts probe i into its lowest sub-bin with room: its start is written and its rows are raised. Where there is none, nothing changes.
-fn place(
-    periods: &[u32],
-    lengths: &[u32],
-    table: Table,
-    chain: Chain,
-    i: usize,
-    starts: &mut [u32],
-    fills: &mut [u32],
-) -> bool
-    requires { ⌜ Ready (now periods) (now lengths) table chain (now starts) (now fills) i ⌝ }
-    ensures { λ r. ⌜ Tried (now (periods .entry)) (now (lengths .entry)) (now (starts .entry)) (now (fills .entry)) i r (now (starts .exit)) (now (fills .exit)) ⌝ }
-{
-    let t = periods[i];
-    let p = lengths[i];
-    let w = table.shortest;
-    let m = table.longest;
-    let h = (m / t) as usize;
-    let y = rows::lowest_row(fills, h, p, w);
-    if fills.len() <= y {
-        return false;
-    }
-    let x = fills[y];
-    starts[i] = grid::start_of(periods, table, chain, i, x, y as u32);
-    rows::raise_rows(fills, y, h, p);
-    true
-}
 
 // The mark at every probe of the order from place k on.
 fn mark_rest(turns: [u32; Table::PROBES], k: usize, n: usize, starts: &mut [u32])

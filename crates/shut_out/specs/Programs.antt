@@ -29,7 +29,8 @@ use Rattle.stack.specs.Stack.{raised, fits, bins, lowestBin}
 use Rattle.stack.specs.FirstFit.{Outcome, marked, binOf, startIn, fitted, planFindings, placed, planned}
 use Rattle.packing.specs.Plan.{Plans}
 use Rattle.packing.specs.Checks.{planned-meets}
-use Rattle.packing.specs.Sound.{stands, not-in}
+use Rattle.lists.specs.Standing.{stands}
+use Rattle.lists.specs.Standing.{not-in}
 use Rattle.packing.proofs.Promises.{plan-unique}
 use Rattle.checker.specs.Check.{Judged, Checks}
 use Rattle.checker.proofs.Promises.{check-unique}

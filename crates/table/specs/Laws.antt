@@ -17,6 +17,7 @@ use lib.Dec.{ltb, eqb}
 use lib.ListN.{length, getD}
 use Rattle.lists.specs.Pick.{Tells, In}
 use Rattle.lists.specs.Telling.{tells-not, tells-eq, tells-lt}
+use Rattle.lists.specs.Standing.{stands, not-in}
 use Rattle.lists.specs.Lowest.{Lowest, lowest, lowest-meets}
 use Rattle.lists.specs.Refusals.{First, Silent, Silents, whole, line, numbers, first-silents, first-rest, rest-first}
 use Rattle.lists.specs.Answering.{found, Finds, AllFind, finds-whole, first-of}
@@ -25,8 +26,8 @@ use Rattle.words.specs.declared.Answer.{Answer}
 use Rattle.words.specs.Answers.{refused, done, mark}
 use Rattle.table.specs.Table.{mostProbes, mostPeriod, mostRows, shortest, rows, BadPeriod, BadLength, Unchained, Differ, lines, Sound, Late, lateLine, Below}
 use Rattle.table.specs.Verdict.{badPeriod, badLength, unchained, late, findings, verdict, Validates}
-use Rattle.table.specs.Seen.{Chained, chained-tells, unchained-tells}
-use Rattle.table.specs.Steps.{bad-period-tells, bad-length-tells, late-tells}
+use Rattle.chained.specs.Seen.{Chained, chained-tells, unchained-tells}
+use Rattle.columns.specs.Steps.{bad-period-tells, bad-length-tells, late-tells}
 
 finds-line : (k n : ℕ) (P : ℕ → Type 0) (i : ℕ) → Lowest P n i → Finds (line k n P) (found k n i)
 finds-line k n P i h = record { number = refl; places = refl; place = h }
@@ -61,19 +62,10 @@ module _ (Ts ps : List ℕ) where
 
   -- no line gives number 0
   never-done : (k i : ℕ) → In k (1 ∷ 2 ∷ 3 ∷ 4 ∷ 5 ∷ 6 ∷ []) → done ≡ refused k i → ⊥
-  unfolding In
+  unfolding stands
   never-done k i h e =
       let z : 0 ≡ k = ap (λ (a : Answer). a .number) e in
-      by h z
-    where
-      by : In k (1 ∷ 2 ∷ 3 ∷ 4 ∷ 5 ∷ 6 ∷ []) → 0 ≡ k → ⊥
-      by (inl a) z = omega arith
-      by (inr (inl a)) z = omega arith
-      by (inr (inr (inl a))) z = omega arith
-      by (inr (inr (inr (inl a)))) z = omega arith
-      by (inr (inr (inr (inr (inl a))))) z = omega arith
-      by (inr (inr (inr (inr (inr (inl a)))))) z = omega arith
-      by (inr (inr (inr (inr (inr (inr a)))))) z = absurd a
+      not-in 0 (1 ∷ 2 ∷ 3 ∷ 4 ∷ 5 ∷ 6 ∷ []) refl (rw (← z) at h)
 
   pub validates-sound : Validates Ts ps done → Sound Ts ps
   unfolding Validates

@@ -1,10 +1,9 @@
 pub mod Table
 pub mod Verdict
-pub mod Seen
-pub mod Steps
 pub mod Ways
 pub mod Laws
 pub mod Composing
+pub mod Passed
 pub mod Extremes
 pub mod Heights
 pub mod Widths

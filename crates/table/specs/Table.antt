@@ -10,40 +10,25 @@
 --     lateLine Ts ss    line 9: "a start is T or more"
 --     Below Ts ss       every start lies below its period: 9 does not apply
 --     listLines Ts ps ss    the lines 1 to 6 and 9 of a call that takes a list: periods, lengths and starts
--- Edges: the empty table is sound; number 5 is about every earlier probe; w is the least period of the whole table.
+-- The conditions of 3, 4, 5 and 9 at a place, w and M stand in columns (specs/Columns) and chained (specs/Chained).
+-- Edges: the empty table is sound.
 -- Assumes nothing.
-use mathlib.Core.Path.{_≡_}
 use mathlib.Core.Logic.{_⊎_, _≢_}
 use mathlib.Core.List.{List, [], _∷_, _++_, map}
-use Prim.Native.Nat.{ℕ, zero, suc, _+_, _/_, _≤_, _<_, _∣_, min, max}
-use lib.ListN.{length, getD}
+use Prim.Native.Nat.{ℕ, _+_, _/_, _<_}
+use lib.ListN.{length}
 use Rattle.lists.specs.Refusals.{Line, line, whole, Silent, Silents}
+pub use Rattle.words.specs.Ticks.{mostPeriod}
+pub use Rattle.columns.specs.Columns.{BadPeriod, BadLength, Late}
+unfoldable pub use Rattle.columns.specs.Columns.{leastOf, greatestOf, shortest, longest}
+pub use Rattle.chained.specs.Chained.{Unchained}
 
--- "probes: 0 to 256"; "period: 1 to 1,048,576"; "rows: at most 4,096"
+-- "probes: 0 to 256"; "rows: at most 4,096"
 abbrev pub mostProbes : ℕ
 mostProbes = 256
 
-abbrev pub mostPeriod : ℕ
-mostPeriod = 1048576
-
 abbrev pub mostRows : ℕ
 mostRows = 4096
-
--- the least of m and a list, and the greatest
-unfoldable pub leastOf : ℕ → List ℕ → ℕ
-leastOf m [] = m
-leastOf m (x ∷ xs) = leastOf (min m x) xs
-
-unfoldable pub greatestOf : ℕ → List ℕ → ℕ
-greatestOf m [] = m
-greatestOf m (x ∷ xs) = greatestOf (max m x) xs
-
-unfoldable pub shortest : List ℕ → ℕ
-shortest [] = 0
-shortest (T ∷ Ts) = leastOf T Ts
-
-unfoldable pub longest : List ℕ → ℕ
-longest Ts = greatestOf 0 Ts
 
 unfoldable pub rows : List ℕ → ℕ
 rows Ts = longest Ts / shortest Ts
@@ -55,25 +40,13 @@ unfoldable pub widths : ℕ → List ℕ → List ℕ
 widths g ps = map (λ (p : ℕ). p + g) ps
 
 module _ (Ts ps : List ℕ) where
-  -- 3: "a period is out of range"
-  abbrev pub BadPeriod : ℕ → Type 0
-  BadPeriod i = (getD Ts i 0 < 1) ⊎ (mostPeriod < getD Ts i 0)
-
-  -- 4: "a length is 0 or above w"
-  abbrev pub BadLength : ℕ → Type 0
-  BadLength i = (getD ps i 0 ≡ 0) ⊎ (shortest Ts < getD ps i 0)
-
-  -- 5: "a probe's period neither divides nor is divided by that of some earlier probe"
-  abbrev pub Unchained : ℕ → Type 0
-  Unchained i = (j : ℕ) × (j < i) × (getD Ts i 0 ∣ getD Ts j 0 → ⊥) × (getD Ts j 0 ∣ getD Ts i 0 → ⊥)
-
   abbrev pub lines : Type 0 → List Line
   lines Differ =
       whole 1 Differ
       ∷ whole 2 (mostProbes < length Ts)
-      ∷ line 3 (length Ts) BadPeriod
-      ∷ line 4 (length Ts) BadLength
-      ∷ line 5 (length Ts) Unchained
+      ∷ line 3 (length Ts) (BadPeriod Ts ps)
+      ∷ line 4 (length Ts) (BadLength Ts ps)
+      ∷ line 5 (length Ts) (Unchained Ts ps)
       ∷ whole 6 (mostRows < rows Ts)
       ∷ []
 
@@ -85,11 +58,8 @@ module _ (Ts ps : List ℕ) where
   Sound = Silents (lines Differ)
 
 module _ (Ts ss : List ℕ) where
-  abbrev pub Late : ℕ → Type 0
-  Late i = getD Ts i 0 ≤ getD ss i 0
-
   abbrev pub lateLine : Line
-  lateLine = line 9 (length Ts) Late
+  lateLine = line 9 (length Ts) (Late Ts ss)
 
   abbrev pub Below : Type 0
   Below = Silent lateLine

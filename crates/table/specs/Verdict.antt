@@ -8,36 +8,18 @@
 use mathlib.Core.Path.{_≡_}
 use mathlib.Core.Bool.{Bool, true, false, not}
 use mathlib.Core.List.{List, [], _∷_, _++_}
-use Prim.Native.Nat.{ℕ, _%_, _≤_, _<_}
-use lib.Dec.{leb, ltb, eqb}
-use lib.ListN.{length, getD}
-use Rattle.lists.specs.Pick.{pick, both, either, anyBelow}
+use Prim.Native.Nat.{ℕ}
+use lib.Dec.{ltb, eqb}
+use lib.ListN.{length}
+use Rattle.lists.specs.Pick.{either}
 use Rattle.lists.specs.Lowest.{lowest}
 use Rattle.lists.specs.Refusals.{First}
 use Rattle.lists.specs.Answering.{Found, found, tested, firstOf}
 use Rattle.words.specs.declared.Answer.{Answer}
 use Rattle.words.specs.Answers.{refused, done}
-use Rattle.table.specs.Table.{mostProbes, mostPeriod, mostRows, shortest, rows, lines, Differ}
-
--- a divides b
-unfoldable pub divides : ℕ → ℕ → Bool
-divides a b = eqb (b % a) 0
-
--- of the two periods one divides the other
-unfoldable pub chained : ℕ → ℕ → Bool
-chained a b = either (divides a b) (divides b a)
-
-unfoldable pub badPeriod : List ℕ → ℕ → Bool
-badPeriod Ts i = either (ltb (getD Ts i 0) 1) (ltb mostPeriod (getD Ts i 0))
-
-unfoldable pub badLength : ℕ → List ℕ → ℕ → Bool
-badLength w ps i = either (eqb (getD ps i 0) 0) (ltb w (getD ps i 0))
-
-unfoldable pub unchained : List ℕ → ℕ → Bool
-unchained Ts i = anyBelow (λ j. not (chained (getD Ts i 0) (getD Ts j 0))) i
-
-unfoldable pub late : List ℕ → List ℕ → ℕ → Bool
-late Ts ss i = leb (getD Ts i 0) (getD ss i 0)
+use Rattle.table.specs.Table.{mostProbes, mostRows, shortest, rows, lines, Differ}
+unfoldable pub use Rattle.columns.specs.Columns.{badPeriod, badLength, late}
+unfoldable pub use Rattle.chained.specs.Chained.{divides, chained, unchained}
 
 unfoldable pub findings : Bool → List ℕ → List ℕ → List Found
 findings differ Ts ps =

@@ -4,7 +4,8 @@ use mathlib.Core.Path.{_≡_, refl, sym, ap, _∙_}
 use mathlib.Core.Logic.{inl, inr}
 use mathlib.Core.Bool.{not}
 use mathlib.Core.List.{List, []}
-use Prim.Native.Nat.{ℕ, _≤_, _<_}
+use Prim.Native.Nat.{ℕ, _/_, _≤_, _<_}
+use native.Mathlib.Nat.{div-zero}
 use native.Mathlib.Omega.{arith}
 use lib.Dec.{ltb}
 use lib.ListN.{length, getD}
@@ -13,9 +14,10 @@ use Rattle.lists.specs.Pick.{pick}
 use Rattle.lists.specs.Lowest.{lowest, lowest-meets}
 use Rattle.lists.specs.Answering.{firstOf}
 use Rattle.words.specs.Answers.{refused, done}
-use Rattle.table.specs.Table.{mostProbes, mostPeriod, mostRows, shortest, rows, BadPeriod}
+use Rattle.table.specs.declared.Table.{Table}
+use Rattle.table.specs.Table.{mostProbes, mostPeriod, mostRows, shortest, longest, rows, BadPeriod}
 use Rattle.table.specs.Verdict.{badPeriod, badLength, unchained, findings, verdict}
-use Rattle.table.specs.Steps.{bad-period-tells}
+use Rattle.columns.specs.Steps.{bad-period-tells}
 
 -- no period is out of range
 pub in-range : (Ts : List ℕ) → length Ts ≤ lowest (badPeriod Ts) (length Ts) → (k : ℕ) → k < length Ts → (0 < getD Ts k 0) × (getD Ts k 0 ≤ mostPeriod)
@@ -70,3 +72,18 @@ module _ (Ts ps : List ℕ) where
 pub bad-length-is : (Ts ps : List ℕ) (j w : ℕ) → w ≡ shortest Ts → length Ts ≡ length ps → j ≡ lowest (badLength w ps) (length ps)
     → j ≡ lowest (badLength (shortest Ts) ps) (length Ts)
 bad-length-is Ts ps j w e f g = rw (e, ← f) at g
+
+-- w, M and H as the code computes them; a quotient by 0 is 0, as H of the empty table
+module _ (Ts : List ℕ) (w m : ℕ) (ew : w ≡ shortest Ts) (em : m ≡ longest Ts) where
+  abbrev pub ThreeOf : ℕ → Type 0
+  ThreeOf h = _≡_ {A = Table} (record { shortest = w; longest = m; rows = h }) (record { shortest = shortest Ts; longest = longest Ts; rows = rows Ts })
+
+  pub three-none : w ≡ 0 → ThreeOf 0
+  unfolding rows
+  three-none z =
+      let none : longest Ts / shortest Ts ≡ 0 = rw (sym ew ∙ z) (div-zero (longest Ts)) in
+      rw (ew, em, none)
+
+  pub three-some : ThreeOf (m / w)
+  unfolding rows
+  three-some = rw (ew, em)

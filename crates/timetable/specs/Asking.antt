@@ -8,17 +8,14 @@
 --     ask-refused, ask-passed   a call that asks the judge first answers the judge's refusal, or what it has to say itself
 -- Assumes nothing.
 use mathlib.Core.Path.{_≡_, refl, sym, ap, _∙_}
-use mathlib.Core.Logic.{inl, inr, ⊎-elim}
 use mathlib.Core.List.{List, [], _∷_}
 use Prim.Native.Nat.{ℕ, _≤_, _<_}
-use native.Mathlib.Decide.{decLe, decLt, ℕ-discrete}
 use native.Mathlib.Omega.{arith}
 use lib.ListN.{length, getD}
 use borrow.Author.Tests.{lt-ltb, le-ltb}
-use Rattle.lists.specs.Pick.{In}
 use Rattle.lists.specs.Telling.{tells-lt}
-use Rattle.lists.specs.Refusals.{Silents, whole, first-silents}
-use Rattle.lists.specs.Answering.{tested, firstOf, first-of, first-of-append, AllFind, all-find-append, finds-whole}
+use Rattle.lists.specs.Refusals.{Silents, whole}
+use Rattle.lists.specs.Answering.{tested, firstOf, first-of-append, AllFind, all-find-append, finds-whole}
 use Rattle.words.specs.declared.Answer.{Answer}
 use Rattle.words.specs.Answers.{refused, done}
 use Rattle.words.specs.Ticks.{lastTick, TooLate, tooLate}
@@ -26,6 +23,7 @@ use Rattle.table.specs.Table.{mostProbes, widths, Sound, listLines}
 use Rattle.table.specs.Verdict.{listFindings}
 use Rattle.table.specs.Laws.{sound-gives}
 use Rattle.table.specs.Composing.{Numbered, numbered-append, listVerdict, list-find, list-numbered, compose-done, compose-refused, refusal-is}
+use Rattle.table.specs.Passed.{silent-if, silents-left, silents-right, silents-append, silent-passes, passes-silent, below-of, at-most}
 use Rattle.timetable.specs.Timetable.{askLines, askFindings}
 
 unfoldable pub askVerdict : List ℕ → List ℕ → List ℕ → ℕ → Answer
@@ -63,55 +61,21 @@ module _ (Ts ps ss : List ℕ) (t : ℕ) where
 
   pub silent-asked : Silents (askLines Ts ps ss t) → Asked Ts ps ss t
   unfolding Silents
-  silent-asked (s₁, (s₂, (s₃, (s₄, (s₅, (s₆, (s₉, (s₁₁, end)))))))) =
-      record {
-        sound = (λ i h n. s₁ i h (inr n), (s₂, (s₃, (s₄, (s₅, (s₆, tt))))));
-        below = λ i h. under i h (decLt (getD ss i 0) (getD Ts i 0));
-        same = equal (ℕ-discrete (length Ts) (length ss));
-        soon = early (decLe t lastTick);
-      }
-    where
-      equal : Dec (length Ts ≡ length ss) → length Ts ≡ length ss
-      equal (yes e) = e
-      equal (no n) = absurd (s₁ 0 (omega arith) (inl n))
-
-      under : (i : ℕ) → i < length Ts → Dec (getD ss i 0 < getD Ts i 0) → getD ss i 0 < getD Ts i 0
-      under i h (yes l) = l
-      under i h (no l) = absurd (s₉ i h (omega arith))
-
-      early : Dec (t ≤ lastTick) → t ≤ lastTick
-      early (yes l) = l
-      early (no l) = absurd (s₁₁ 0 (omega arith) (omega arith))
+  silent-asked s =
+      let p = silent-passes Ts ps ss (silents-left (listLines Ts ps ss) (whole 11 (TooLate t) ∷ []) s) in
+      let r = silents-right (listLines Ts ps ss) (whole 11 (TooLate t) ∷ []) s in
+      record { sound = p .sound; below = below-of Ts ss (p .below); same = p .same; soon = at-most t lastTick (λ h. r .0 0 (omega arith) h) }
 
   pub asked-silent : Asked Ts ps ss t → Silents (askLines Ts ps ss t)
   unfolding Silents
   asked-silent a =
-      let (s₁, (s₂, (s₃, (s₄, (s₅, (s₆, end)))))) = a .sound in (
-        λ i h. ⊎-elim (λ n. n (a .same)) (s₁ i h),
-        (s₂, (s₃, (s₄, (s₅, (s₆, (λ i h l. absurd (omega (arith, a .below i h)), (λ i h l. absurd (omega (arith, a .soon)), tt))))))),
-      )
-
-  -- no line gives number 0
-  pub ask-never-done : (k : ℕ) → In k (1 ∷ 2 ∷ 3 ∷ 4 ∷ 5 ∷ 6 ∷ 9 ∷ 11 ∷ []) → 0 ≡ k → ⊥
-  unfolding In
-  ask-never-done k (inl a) z = omega arith
-  ask-never-done k (inr (inl a)) z = omega arith
-  ask-never-done k (inr (inr (inl a))) z = omega arith
-  ask-never-done k (inr (inr (inr (inl a)))) z = omega arith
-  ask-never-done k (inr (inr (inr (inr (inl a))))) z = omega arith
-  ask-never-done k (inr (inr (inr (inr (inr (inl a)))))) z = omega arith
-  ask-never-done k (inr (inr (inr (inr (inr (inr (inl a))))))) z = omega arith
-  ask-never-done k (inr (inr (inr (inr (inr (inr (inr (inl a)))))))) z = omega arith
-  ask-never-done k (inr (inr (inr (inr (inr (inr (inr (inr a)))))))) z = absurd a
+      silents-append (listLines Ts ps ss) (whole 11 (TooLate t) ∷ [])
+      (passes-silent Ts ps ss (record { sound = a .sound; below = λ i h l. absurd (omega (arith, a .below i h)); same = a .same }))
+      (λ i h l. absurd (omega (arith, a .soon)), tt)
 
   pub zero-asked : (a : Answer) → a ≡ askVerdict Ts ps ss t → a .number ≡ 0 → Asked Ts ps ss t
   unfolding askVerdict
-  zero-asked a e z =
-      let judged = first-of (askLines Ts ps ss t) (askFindings Ts ps ss t) refused (λ r. r ≡ done) done ask-find (λ s. refl) in
-      silent-asked
-      (first-silents (askLines Ts ps ss t) refused (λ r. r ≡ done) _
-      (λ k i h f. ask-never-done k h (sym (rw e at z) ∙ ap (λ (r : Answer). r .number) f))
-      judged)
+  zero-asked a e z = silent-asked (silent-if (askLines Ts ps ss t) (askFindings Ts ps ss t) ask-find ask-numbered (rw e at z))
 
   -- the judge of a list first, then the tick
   split : askVerdict Ts ps ss t ≡ firstOf (listFindings Ts ps ss) refused (firstOf (tested 11 (tooLate t) ∷ []) refused done)

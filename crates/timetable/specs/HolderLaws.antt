@@ -2,16 +2,14 @@
 --     held-unique               at most one answer is HeldBy
 --     holder-held               holderOf is
 --     holder-meets              of any list holderAnswer meets Holder
---     early-holds, phase-holds  the test of one probe, as the code writes it
 --     holder-found, -idle       the ways out of `holder`
 -- Assumes nothing.
 use mathlib.Core.Path.{_≡_, refl, sym, ap, _∙_}
-use mathlib.Core.Bool.{false}
 use mathlib.Core.List.{List}
 use Prim.Native.Nat.{ℕ, _≤_, _<_}
 use lib.Dec.{ltb}
 use lib.ListN.{length, getD}
-use borrow.Author.Tests.{le-leb, lt-leb, lt-ltb, le-ltb}
+use borrow.Author.Tests.{lt-ltb, le-ltb}
 use Rattle.lists.specs.Pick.{pick}
 use Rattle.lists.specs.Lowest.{lowest, lowest-meets, lowest-unique}
 use Rattle.lists.specs.Answering.{first-of}
@@ -23,14 +21,6 @@ use Rattle.table.specs.Table.{widths}
 use Rattle.timetable.specs.Timetable.{askLines, askFindings, phase, HeldBy, holdsTest, holderOf, Holder, holderAnswer}
 use Rattle.table.specs.Widths.{widths-none}
 use Rattle.timetable.specs.Asking.{askVerdict, ask-find, ask-refused, ask-passed}
-
--- one probe
-pub early-holds : (T q s t : ℕ) → t < s → false ≡ holds T q s t
-early-holds T q s t h = rw (lt-leb s t h)
-
-pub phase-holds : (T q s t x : ℕ) → x ≡ phase T s t → s ≤ t → ltb x q ≡ holds T q s t
-unfolding phase
-phase-holds T q s t x e h = rw (e, le-leb s t h)
 
 module _ (Ts qs ss : List ℕ) (t : ℕ) where
   pub holds-at : (i : ℕ) → holdsTest Ts qs ss t i ≡ holds (getD Ts i 0) (getD qs i 0) (getD ss i 0) t

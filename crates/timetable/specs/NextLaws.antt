@@ -20,24 +20,12 @@ use Rattle.lists.specs.Answering.{first-of}
 use Rattle.words.specs.declared.Answer.{Answer}
 use Rattle.words.specs.Answers.{refused, pair, mark}
 use Rattle.table.specs.Laws.{sound-gives}
+use Rattle.moments.specs.Laws.{candidate-now, candidate-here, candidate-later}
 use Rattle.timetable.specs.Timetable.{askLines, askFindings, Starts, IsNextStart, NextStart, NextFrom, phase, candidate, nextOf, nextAnswer}
 use Rattle.timetable.specs.Asking.{askVerdict, silent-asked, ask-find, ask-refused, ask-passed}
 
 -- one probe
 module _ (T s t : ℕ) where
-  pub candidate-now : t ≤ s → s ≡ candidate T s t
-  unfolding candidate
-  candidate-now h = rw (le-leb t s h)
-
-  module _ (f : ℕ) (e : f ≡ phase T s t) (h : s < t) where
-    pub candidate-here : f ≡ 0 → t ≡ candidate T s t
-    unfolding candidate
-    candidate-here g = rw (lt-leb t s h, ← e, eq-eqb f 0 g)
-
-    pub candidate-later : (f ≡ 0 → ⊥) → t + (T - f) ≡ candidate T s t
-    unfolding candidate
-    candidate-later g = rw (lt-leb t s h, ← e, ne-eqb f 0 g)
-
   module _ (z : 0 < T) where
     record Fits (x : ℕ) : Type 0 where
       from : t ≤ x
@@ -75,9 +63,9 @@ module _ (T s t : ℕ) where
     candidate-fits = by (decLe t s) (ℕ-discrete ((t - s) % T) 0)
       where
         by : Dec (t ≤ s) → Dec ((t - s) % T ≡ 0) → Fits (candidate T s t)
-        by (yes h) d = rw (← (candidate-now h)) (now-fits h)
-        by (no h) (yes e) = rw (← (candidate-here ((t - s) % T) refl (omega arith) e)) (here-fits (omega arith) e)
-        by (no h) (no n) = rw (← (candidate-later ((t - s) % T) refl (omega arith) n)) (later-fits (omega arith) n)
+        by (yes h) d = rw (← (candidate-now T s t h)) (now-fits h)
+        by (no h) (yes e) = rw (← (candidate-here T s t ((t - s) % T) refl (omega arith) e)) (here-fits (omega arith) e)
+        by (no h) (no n) = rw (← (candidate-later T s t ((t - s) % T) refl (omega arith) n)) (later-fits (omega arith) n)
 
     pub candidate-from : t ≤ candidate T s t
     candidate-from = candidate-fits .from

@@ -28,15 +28,13 @@ use Rattle.words.specs.Ticks.{TooLate, tooLate}
 use Rattle.wire.specs.Wire.{HoldsAt}
 use Rattle.table.specs.Table.{widths, listLines}
 use Rattle.table.specs.Verdict.{listFindings}
+unfoldable pub use Rattle.moments.specs.Moments.{phase, candidate}
 
 abbrev pub askLines : List ℕ → List ℕ → List ℕ → ℕ → List Line
 askLines Ts ps ss t = listLines Ts ps ss ++ (whole 11 (TooLate t) ∷ [])
 
 unfoldable pub askFindings : List ℕ → List ℕ → List ℕ → ℕ → List Found
 askFindings Ts ps ss t = listFindings Ts ps ss ++ (tested 11 (tooLate t) ∷ [])
-
-unfoldable pub phase : ℕ → ℕ → ℕ → ℕ
-phase T s t = (t - s) % T
 
 module _ (Ts qs ss : List ℕ) (t : ℕ) where
   -- r is the lowest probe that holds t, and the number of probes where none does
@@ -77,10 +75,6 @@ module _ (Ts ss : List ℕ) (t : ℕ) where
 
 unfoldable pub NextFrom : List ℕ → List ℕ → List ℕ → ℕ → Answer → Type 0
 NextFrom Ts ps ss t a = First (askLines Ts ps ss t) refused (NextStart Ts ss t) a
-
--- the first start of one probe from t on: its start, or t where a read starts then, or the rest of the turn later
-unfoldable pub candidate : ℕ → ℕ → ℕ → ℕ
-candidate T s t = pick (leb t s) s (pick (eqb (phase T s t) 0) t (t + (T - phase T s t)))
 
 -- "none" or a probe and its start, folded over the probes from the first
 unfoldable pub nextOf : List ℕ → List ℕ → ℕ → ℕ → Answer

@@ -1,39 +1,17 @@
 // The timetable of a sound table and list, clean or not: who holds a tick, and when the next read starts.
 ghost use mathlib.Core.Path.{_≡_};
-ghost use Prim.Native.Nat.{_≤_, _<_};
 ghost use lib.ListN.{length};
 ghost use Rattle.lists.specs.Lowest.{lowest};
-ghost use Rattle.words.specs.Ticks.{lastTick};
-ghost use Rattle.wire.specs.Window.{holds};
-ghost use Rattle.timetable.specs.Timetable.{phase, holdsTest, Holder, candidate, nextOf, NextFrom};
+ghost use Rattle.timetable.specs.Timetable.{holdsTest, Holder, nextOf, NextFrom};
 ghost use Rattle.timetable.specs.Asking.{askVerdict, Asked, Timed};
+use moments::first_from;
+use moments::holds;
 use words::Answer;
 use words::Tick;
 
 // What `holder` answers: the probe that holds the tick as the index, or the mark where the wire is idle.
 pub struct Held {
     pub answer: Answer,
-}
-
-// Ticks since the start of the read or pause that the tick lies in.
-fn phase(period: u32, start: u32, tick: u64) -> u32
-    requires { ⌜ 0 < period ⌝ }
-    requires { ⌜ start ≤ tick ⌝ }
-    ensures { λ r. ⌜ r ≡ phase period start tick ⌝ }
-{
-    ((tick - start as u64) % period as u64) as u32
-}
-
-// Whether a probe holds the tick: not before its start, and within the first ticks of a turn.
-fn holds(period: u32, length: u32, start: u32, tick: u64) -> bool
-    requires { ⌜ 0 < period ⌝ }
-    ensures { λ r. ⌜ r ≡ holds period length start tick ⌝ }
-{
-    if tick < start as u64 {
-        return false;
-    }
-    let since = phase(period, start, tick);
-    since < length
 }
 
 // The lowest-numbered probe that holds the tick; the number of probes where none does.
@@ -50,22 +28,6 @@ fn holding(periods: &[u32], lengths: &[u32], starts: &[u32], tick: u64) -> usize
         i += 1;
     }
     i
-}
-
-// The first start of one probe from the tick on.
-fn first_from(period: u32, start: u32, tick: u64) -> u64
-    requires { ⌜ 0 < period ⌝ }
-    requires { ⌜ tick ≤ lastTick ⌝ }
-    ensures { λ r. ⌜ r ≡ candidate period start tick ⌝ }
-{
-    if tick <= start as u64 {
-        return start as u64;
-    }
-    let since = phase(period, start, tick);
-    if since == 0 {
-        return tick;
-    }
-    tick + (period - since) as u64
 }
 
 // The least start from the tick on, with the lowest such probe; the mark where there is no probe.

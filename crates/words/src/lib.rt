@@ -1,7 +1,7 @@
-// The words that every crate shares: an answer, its mark, and the last tick that may be asked about.
+// The words that every crate shares: an answer, its mark, the last tick that may be asked about and the longest period.
 ghost use mathlib.Core.Path.{_≡_};
 ghost use Rattle.words.specs.Answers.{pair, refused, done, mark};
-ghost use Rattle.words.specs.Ticks.{lastTick, tooLate};
+ghost use Rattle.words.specs.Ticks.{lastTick, tooLate, mostPeriod};
 
 // What every call answers: a number of document 01's table, and what that number names. Fields not named are 0.
 pub struct Answer {
@@ -78,5 +78,22 @@ impl Tick {
         ensures { λ r. ⌜ r ≡ lastTick ⌝ }
     {
         Tick::LAST
+    }
+}
+
+// The period of a probe.
+pub struct Period {
+    pub ticks: u32,
+}
+
+impl Period {
+    // The longest one that may be.
+    pub const LONGEST: u32 = 1_048_576;
+
+    // The code's longest period is that of specs/.
+    pub fn tie_longest() -> u32
+        ensures { λ r. ⌜ r ≡ mostPeriod ⌝ }
+    {
+        Period::LONGEST
     }
 }

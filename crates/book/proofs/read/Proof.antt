@@ -5,16 +5,16 @@ use native.Mathlib.Omega.{arith}
 use Rattle.words.specs.declared.Answer.{Answer}
 use Rattle.sheets.specs.Layout.{firstEdition}
 use Rattle.book.specs.Reading.{columns}
-use Rattle.book.specs.ReadLaws.{reads-as, read-size, read-block, read-short, read-done}
-use Rattle.book.specs.Loading.{Passed, passed, done-is}
+use Rattle.book.specs.ReadLaws.{reads-as, read-size, read-block, read-short, read-done, done-is}
+use Rattle.loading.specs.Loading.{Passed, passed}
 use borrow.Author.Needs.{needs}
 use Rattle.book.proofs.read.Statement.{statement}
 use Rattle.book.proofs.read.Tie as tie
 use Rattle.book.proofs.read.Reads as reads
 use Rattle.book.proofs.read.Lts as lts
-use Rattle.book.proofs.bad_size.Reads as bad-size-reads
-use Rattle.book.proofs.judge_blocks.Reads as judge-blocks-reads
-use Rattle.book.proofs.load.Reads as load-reads
+use Rattle.loading.proofs.bad_size.Reads as bad-size-reads
+use Rattle.loading.proofs.judge_blocks.Reads as judge-blocks-reads
+use Rattle.loading.proofs.load.Reads as load-reads
 use Rattle.words.proofs.Answer.refused.Reads as refused-reads
 
 bad-size-requires : tie.Need-bad-size-requires

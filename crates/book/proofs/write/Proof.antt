@@ -15,7 +15,7 @@ use Rattle.book.proofs.write.Statement.{statement}
 use Rattle.book.proofs.write.Tie as tie
 use Rattle.book.proofs.write.Reads as reads
 use Rattle.book.proofs.write.Lts as lts
-use Rattle.book.proofs.put_blocks.Reads as put-blocks-reads
+use Rattle.filling.proofs.put_blocks.Reads as put-blocks-reads
 use Rattle.sheets.proofs.blocks_of.Reads as blocks-of-reads
 use Rattle.words.proofs.Answer.refused.Reads as refused-reads
 

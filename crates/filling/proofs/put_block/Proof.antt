@@ -14,7 +14,7 @@ use Rattle.filling.proofs.put_block.Tie as tie
 use Rattle.filling.proofs.put_block.Reads as reads
 use Rattle.filling.proofs.put_block.Lts as lts
 use Rattle.filling.proofs.put_head.Reads as put-head-reads
-use Rattle.filling.proofs.put_records.Reads as put-records-reads
+use Rattle.records.proofs.put_records.Reads as put-records-reads
 use Rattle.filling.proofs.put_sums.Reads as put-sums-reads
 use Rattle.filling.proofs.put_zeros.Reads as put-zeros-reads
 use Rattle.sheets.proofs.records_of.Reads as records-of-reads

@@ -10,8 +10,8 @@ use Rattle.filling.proofs.put_head.Statement.{statement}
 use Rattle.filling.proofs.put_head.Tie as tie
 use Rattle.filling.proofs.put_head.Reads as reads
 use Rattle.filling.proofs.put_head.Lts as lts
-use Rattle.filling.proofs.put2.Reads as put2-reads
-use Rattle.filling.proofs.put4.Reads as put4-reads
+use Rattle.records.proofs.put2.Reads as put2-reads
+use Rattle.records.proofs.put4.Reads as put4-reads
 use Rattle.sheets.proofs.blocks_of.Reads as blocks-of-reads
 use Rattle.sheets.proofs.records_of.Reads as records-of-reads
 

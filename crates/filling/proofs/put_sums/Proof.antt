@@ -8,7 +8,7 @@ use Rattle.filling.proofs.put_sums.Statement.{statement}
 use Rattle.filling.proofs.put_sums.Tie as tie
 use Rattle.filling.proofs.put_sums.Reads as reads
 use Rattle.filling.proofs.put_sums.Lts as lts
-use Rattle.filling.proofs.put4.Reads as put4-reads
+use Rattle.records.proofs.put4.Reads as put4-reads
 use Rattle.sheets.proofs.byte_sum.Reads as byte-sum-reads
 use Rattle.sheets.proofs.place_sum.Reads as place-sum-reads
 

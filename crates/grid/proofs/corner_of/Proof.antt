@@ -8,7 +8,7 @@ use Rattle.grid.proofs.corner_of.Statement.{statement}
 use Rattle.grid.proofs.corner_of.Tie as tie
 use Rattle.grid.proofs.corner_of.Reads as reads
 use Rattle.grid.proofs.corner_of.Lts as lts
-use Rattle.chain.proofs.Chain.flip.Reads as flip-reads
+use Rattle.flipping.proofs.Chain.flip.Reads as flip-reads
 
 mul-t : tie.Need-mul-t
 mul-t c = search needs

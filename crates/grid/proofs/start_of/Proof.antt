@@ -7,7 +7,7 @@ use Rattle.grid.proofs.start_of.Statement.{statement}
 use Rattle.grid.proofs.start_of.Tie as tie
 use Rattle.grid.proofs.start_of.Reads as reads
 use Rattle.grid.proofs.start_of.Lts as lts
-use Rattle.chain.proofs.Chain.unflip.Reads as unflip-reads
+use Rattle.flipping.proofs.Chain.unflip.Reads as unflip-reads
 
 mul-t : tie.Need-mul-t
 mul-t c = search needs

@@ -5,7 +5,7 @@ use Rattle.masters.proofs.tell.Statement.{statement}
 use Rattle.masters.proofs.tell.Tie as tie
 use Rattle.masters.proofs.tell.Reads as reads
 use Rattle.masters.proofs.tell.Lts as lts
-use Rattle.filling.proofs.put4.Reads as put4-reads
+use Rattle.records.proofs.put4.Reads as put4-reads
 
 -- src/lib.rt:31:15
 cast-low : tie.Need-cast-low

@@ -7,15 +7,15 @@ use lib.Seq.{length-take-le}
 use Rattle.table.specs.declared.Table.{Table}
 use Rattle.table.specs.Table.{rows}
 use Rattle.table.specs.Laws.{sound-gives}
-use Rattle.packing.specs.Sound.{prepared-of}
+use Rattle.grid.specs.Laws.{prepared-of}
 use Rattle.packing.specs.Ends.{PlanReady, plan-ready, plan-refused-end, plan-end}
 use borrow.Author.Needs.{needs}
 use Rattle.packing.proofs.plan.Statement.{statement}
 use Rattle.packing.proofs.plan.Tie as tie
 use Rattle.packing.proofs.plan.Reads as reads
 use Rattle.packing.proofs.plan.Lts as lts
-use Rattle.chain.proofs.Chain.of.Reads as Chain-of-reads
-use Rattle.packing.proofs.plan_judged.Reads as plan-judged-reads
+use Rattle.flipping.proofs.Chain.of.Reads as Chain-of-reads
+use Rattle.admitting.proofs.plan_judged.Reads as plan-judged-reads
 use Rattle.ranks.proofs.order_of.Reads as order-of-reads
 use Rattle.rows.proofs.clear.Reads as clear-reads
 use Rattle.seating.proofs.place_all.Reads as place-all-reads

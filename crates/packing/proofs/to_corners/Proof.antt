@@ -3,16 +3,16 @@ use mathlib.Core.Path.{_≡_, refl, sym, ap, _∙_}
 use native.Mathlib.Omega.{arith}
 use lib.ListN.{length}
 use Rattle.table.specs.Laws.{sound-gives}
-use Rattle.packing.specs.Sound.{prepared-of}
+use Rattle.grid.specs.Laws.{prepared-of}
 use Rattle.packing.specs.Ends.{CornersReady, corners-ready, corners-refused-end, corners-end}
 use borrow.Author.Needs.{needs}
 use Rattle.packing.proofs.to_corners.Statement.{statement}
 use Rattle.packing.proofs.to_corners.Tie as tie
 use Rattle.packing.proofs.to_corners.Reads as reads
 use Rattle.packing.proofs.to_corners.Lts as lts
-use Rattle.chain.proofs.Chain.of.Reads as Chain-of-reads
+use Rattle.flipping.proofs.Chain.of.Reads as Chain-of-reads
 use Rattle.grid.proofs.write_corners.Reads as write-corners-reads
-use Rattle.packing.proofs.corners_judged.Reads as corners-judged-reads
+use Rattle.admitting.proofs.corners_judged.Reads as corners-judged-reads
 use Rattle.table.proofs.Table.of.Reads as Table-of-reads
 
 corners-judged-requires : tie.Need-corners-judged-requires

@@ -3,16 +3,16 @@ use mathlib.Core.Path.{_≡_, refl, sym, ap, _∙_}
 use native.Mathlib.Omega.{arith}
 use lib.ListN.{length}
 use Rattle.table.specs.Laws.{sound-gives}
-use Rattle.packing.specs.Sound.{prepared-of}
+use Rattle.grid.specs.Laws.{prepared-of}
 use Rattle.packing.specs.Ends.{StartsReady, starts-ready, starts-refused-end, starts-end}
 use borrow.Author.Needs.{needs}
 use Rattle.packing.proofs.to_starts.Statement.{statement}
 use Rattle.packing.proofs.to_starts.Tie as tie
 use Rattle.packing.proofs.to_starts.Reads as reads
 use Rattle.packing.proofs.to_starts.Lts as lts
-use Rattle.chain.proofs.Chain.of.Reads as Chain-of-reads
+use Rattle.flipping.proofs.Chain.of.Reads as Chain-of-reads
 use Rattle.grid.proofs.write_starts.Reads as write-starts-reads
-use Rattle.packing.proofs.starts_judged.Reads as starts-judged-reads
+use Rattle.admitting.proofs.starts_judged.Reads as starts-judged-reads
 use Rattle.table.proofs.Table.of.Reads as Table-of-reads
 
 starts-judged-requires : tie.Need-starts-judged-requires

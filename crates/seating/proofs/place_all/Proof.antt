@@ -8,16 +8,15 @@ use borrow.Author.Tests.{not-true, not-false}
 use Rattle.order.specs.Order.{order}
 use Rattle.order.specs.Listed.{order-probe}
 use Rattle.stack.specs.FirstFit.{outcome, marked}
-use Rattle.stack.specs.Fitting.{length-marked}
-use Rattle.seating.specs.Seating.{Ready, Tried}
-use Rattle.seating.specs.Laws.{Seating, seating-start, seating-next, seating-stuck, seating-done, order-entry}
+use Rattle.placing.specs.Placing.{Ready, Tried}
+use Rattle.seating.specs.Laws.{Seating, seating-start, seating-next, stuck-end, done-end, marked-long, rows-long, order-entry}
 use borrow.Author.Needs.{needs}
 use Rattle.seating.proofs.place_all.Statement.{statement}
 use Rattle.seating.proofs.place_all.Tie as tie
 use Rattle.seating.proofs.place_all.Reads as reads
 use Rattle.seating.proofs.place_all.Lts as lts
 use Rattle.seating.proofs.mark_rest.Reads as mark-rest-reads
-use Rattle.seating.proofs.place.Reads as place-reads
+use Rattle.placing.proofs.place.Reads as place-reads
 use Rattle.words.proofs.Answer.done.Reads as done-reads
 use Rattle.words.proofs.Answer.refused.Reads as refused-reads
 
@@ -34,22 +33,14 @@ loop-holds c =
 
 mul-i : tie.Need-mul-i Inv-loop μ-loop
 mul-i c =
-    let a = c .before .before .before .before .before .before .args in
-    let p = c .before .before .before .before .before .before .pre in
-    let Ts = a .periods .now in
-    let ps = a .lengths .now in
-    let l = c .before .loop in
-    let w = l .inv .within in
+    let few = c .before .before .before .before .before .before .pre .1 .0 .1 in
+    let w = c .before .loop .inv .within in
     omega arith
 
 array-read-i : tie.Need-array-read-i Inv-loop μ-loop
 array-read-i c =
-    let a = c .before .before .before .before .before .before .args in
-    let p = c .before .before .before .before .before .before .pre in
-    let Ts = a .periods .now in
-    let ps = a .lengths .now in
-    let l = c .before .loop in
-    let w = l .inv .within in
+    let few = c .before .before .before .before .before .before .pre .1 .0 .1 in
+    let w = c .before .loop .inv .within in
     omega arith
 
 cast-place : tie.Need-cast-place Inv-loop μ-loop
@@ -100,23 +91,11 @@ refused-requires c κs = search needs
 
 same-length : tie.Need-same-length Inv-loop μ-loop
 same-length c =
-    let a = c .before .before .before .before .before .before .before .before .before .before .before .before .before .before .before .before .before .before .before .args in
-    let p = c .before .before .before .before .before .before .before .before .before .before .before .before .before .before .before .before .before .before .before .pre in
-    let Ts = a .periods .now in
-    let ps = a .lengths .now in
-    let l = c .before .before .before .before .before .before .before .before .before .before .before .before .before .before .loop in
-    let still = c .before .before .before .before .before .before .before .before .before .before .place .ensures .stayed (not-true _ (c .before .before .before .before .before .if1 .taken)) in
-    ap length (c .before .before .before .mark-rest .ensures) ∙ length-marked _ _ ∙ ap length (still .0) ∙ l .inv .s-long
+    marked-long _ _ _ _ (c .before .before .before .before .before .before .before .before .before .before .before .before .before .before .before .before .before .before .before .args .starts .now) (c .before .before .before .mark-rest .ensures) (c .before .before .before .before .before .before .before .before .before .before .place .ensures .stayed (not-true _ (c .before .before .before .before .before .if1 .taken)) .0) (c .before .before .before .before .before .before .before .before .before .before .before .before .before .before .loop .inv .s-long)
 
 same-length-2 : tie.Need-same-length-2 Inv-loop μ-loop
 same-length-2 c =
-    let a = c .before .before .before .before .before .before .before .before .before .before .before .before .before .before .before .before .before .before .before .args in
-    let p = c .before .before .before .before .before .before .before .before .before .before .before .before .before .before .before .before .before .before .before .pre in
-    let Ts = a .periods .now in
-    let ps = a .lengths .now in
-    let l = c .before .before .before .before .before .before .before .before .before .before .before .before .before .before .loop in
-    let still = c .before .before .before .before .before .before .before .before .before .before .place .ensures .stayed (not-true _ (c .before .before .before .before .before .if1 .taken)) in
-    ap length (still .1) ∙ l .inv .f-long ∙ sym (p .1 .1 .1 .1 .0)
+    rows-long _ _ (c .before .before .before .before .before .before .before .before .before .before .before .before .before .before .before .before .before .before .before .args .fills .now) _ (c .before .before .before .before .before .before .before .before .before .before .place .ensures .stayed (not-true _ (c .before .before .before .before .before .if1 .taken)) .1) (c .before .before .before .before .before .before .before .before .before .before .before .before .before .before .loop .inv .f-long) (c .before .before .before .before .before .before .before .before .before .before .before .before .before .before .before .before .before .before .before .pre .1 .1 .1 .1 .0)
 
 returns : tie.Need-returns Inv-loop μ-loop
 returns c =
@@ -125,21 +104,14 @@ returns c =
     let Ts = a .periods .now in
     let ps = a .lengths .now in
     let l = c .before .before .before .before .before .before .before .before .before .before .before .before .before .before .loop in
-    let e = order-entry Ts ps (a .t3) (l .k) (p .1 .1 .0) (omega arith) in
-    let probe : getD (a .t3) (l .k) 0 < length Ts = rw e (order-probe Ts ps (l .k) (omega arith)) in
-    let no-room = not-true _ (c .before .before .before .before .before .if1 .taken) in
-    let still = c .before .before .before .before .before .before .before .before .before .before .place .ensures .stayed no-room in
-    let st = seating-stuck Ts ps (a .starts .now) (a .fills .now) (l .starts) (l .fills) (l .k) (l .inv) (omega arith) (getD (a .t3) (l .k) 0) e _ _ _ (c .before .before .before .before .before .before .before .before .before .before .place .ensures) no-room in
-    let order-is = p .1 .1 .0 in
-    cc (c .refused .ensures, c .before .before .before .mark-rest .ensures)
+    let h : l .k < length Ts = omega arith in
+    stuck-end Ts ps (a .t3) (a .starts .now) (a .fills .now) (l .starts) (l .fills) (l .k) (p .1 .1 .0) (l .inv) h (getD (a .t3) (l .k) 0)
+    (order-entry Ts ps (a .t3) (l .k) (p .1 .1 .0) h) _ _ _ (c .before .before .before .before .before .before .before .before .before .before .place .ensures)
+    (not-true _ (c .before .before .before .before .before .if1 .taken)) _ _ (c .refused .ensures) (c .before .before .before .mark-rest .ensures)
 
 add-k : tie.Need-add-k Inv-loop μ-loop
 add-k c =
-    let a = c .before .before .before .before .before .before .before .before .before .before .before .before .before .before .args in
-    let p = c .before .before .before .before .before .before .before .before .before .before .before .before .before .before .pre in
-    let Ts = a .periods .now in
-    let ps = a .lengths .now in
-    let l = c .before .before .before .before .before .before .before .before .before .loop in
+    let few = c .before .before .before .before .before .before .before .before .before .before .before .before .before .before .pre .1 .0 .1 in
     omega arith
 
 loop-less : tie.Need-loop-less Inv-loop μ-loop
@@ -160,31 +132,16 @@ done-requires : tie.Need-done-requires Inv-loop μ-loop
 done-requires c κs = search needs
 
 same-length-3 : tie.Need-same-length-3 Inv-loop μ-loop
-same-length-3 c =
-    let a = c .before .before .before .before .before .before .before .args in
-    let p = c .before .before .before .before .before .before .before .pre in
-    let Ts = a .periods .now in
-    let ps = a .lengths .now in
-    let l = c .before .before .loop in
-    l .inv .s-long
+same-length-3 c = c .before .before .loop .inv .s-long
 
 same-length-4 : tie.Need-same-length-4 Inv-loop μ-loop
-same-length-4 c =
-    let a = c .before .before .before .before .before .before .before .args in
-    let p = c .before .before .before .before .before .before .before .pre in
-    let Ts = a .periods .now in
-    let ps = a .lengths .now in
-    let l = c .before .before .loop in
-    l .inv .f-long ∙ sym (p .1 .1 .1 .1 .0)
+same-length-4 c = c .before .before .loop .inv .f-long ∙ sym (c .before .before .before .before .before .before .before .pre .1 .1 .1 .1 .0)
 
 returns-2 : tie.Need-returns-2 Inv-loop μ-loop
 returns-2 c =
     let a = c .before .before .before .before .before .before .before .args in
-    let p = c .before .before .before .before .before .before .before .pre in
-    let Ts = a .periods .now in
-    let ps = a .lengths .now in
     let l = c .before .before .loop in
-    cc (seating-done Ts ps (a .starts .now) (a .fills .now) (l .starts) (l .fills) (l .k) (omega arith) (l .inv), c .done .ensures)
+    done-end (a .periods .now) (a .lengths .now) (a .starts .now) (a .fills .now) (l .starts) (l .fills) (l .k) (omega arith) (l .inv) _ (c .done .ensures)
 
 pub place-all-spec : {M : Type 1} → statement M
 place-all-spec =

@@ -15,9 +15,9 @@ use Rattle.table.proofs.judge.Reads as reads
 use Rattle.table.proofs.judge.Lts as lts
 use Rattle.table.proofs.Table.of.Reads as of-reads
 use Rattle.table.proofs.at_place.Reads as at-place-reads
-use Rattle.table.proofs.bad_length.Reads as bad-length-reads
-use Rattle.table.proofs.bad_period.Reads as bad-period-reads
-use Rattle.table.proofs.unchained.Reads as unchained-reads
+use Rattle.columns.proofs.bad_length.Reads as bad-length-reads
+use Rattle.columns.proofs.bad_period.Reads as bad-period-reads
+use Rattle.chained.proofs.unchained.Reads as unchained-reads
 use Rattle.words.proofs.Answer.done.Reads as done-reads
 use Rattle.words.proofs.Answer.refused.Reads as refused-reads
 

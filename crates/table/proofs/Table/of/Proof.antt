@@ -1,13 +1,12 @@
 use mathlib.Core.Path.{_≡_}
-use Rattle.table.specs.Table.{rows}
-use Rattle.table.specs.Steps.{div-by-none}
+use Rattle.table.specs.Ways.{three-none, three-some}
 use borrow.Author.Needs.{needs}
 use Rattle.table.proofs.Table.of.Statement.{statement}
 use Rattle.table.proofs.Table.of.Tie as tie
 use Rattle.table.proofs.Table.of.Reads as reads
 use Rattle.table.proofs.Table.of.Lts as lts
-use Rattle.table.proofs.greatest.Reads as greatest-reads
-use Rattle.table.proofs.least.Reads as least-reads
+use Rattle.columns.proofs.greatest.Reads as greatest-reads
+use Rattle.columns.proofs.least.Reads as least-reads
 
 -- src/lib.rt:34:13
 least-requires : tie.Need-least-requires
@@ -19,10 +18,9 @@ greatest-requires c κs = search needs
 
 -- src/lib.rt:37:13
 returns : tie.Need-returns
-unfolding rows
 returns c =
-    let z : c .before .before .least .result ≡ 0 = c .if1 .taken in
-    cc (div-by-none (c .before .greatest .result) (c .before .before .least .result) z)
+    three-none _ (c .before .before .least .result) (c .before .greatest .result)
+    (c .before .before .least .ensures) (c .before .greatest .ensures) (c .if1 .taken)
 
 -- src/lib.rt:46:19
 div-t5 : tie.Need-div-t5
@@ -30,8 +28,9 @@ div-t5 c = search needs
 
 -- src/lib.rt:31:5
 returns-2 : tie.Need-returns-2
-unfolding rows
-returns-2 c = cc
+returns-2 c =
+    three-some _ (c .before .before .least .result) (c .before .greatest .result)
+    (c .before .before .least .ensures) (c .before .greatest .ensures)
 
 pub of-spec : {M : Type 1} → statement M
 of-spec = tie.close (tie.spec least-requires greatest-requires returns div-t5 returns-2)
