@@ -31,9 +31,9 @@
  * The functions have no state, use no heap, make no system call and take no lock: they may be called again before a call is over, from
  * other threads or an interrupt, as long as the lent bytes are not the same.
  *
- * Stack: each call took at most 3,584 bytes, its return address included, when it was measured (`make stack`, docs/FIGURES.md). That is a
- * measurement of this archive and not a proof: it counts glibc's memset, and not what an interrupt takes. There is no recursion, and no
- * frame depends on the input.
+ * Stack: a call took at most 3,584 bytes, its return address included, when it was measured (`make stack`, docs/FIGURES.md);
+ * set aside LINE_STACK_BYTES. That is a measurement of this archive and not a proof. It counts memset, and not what an
+ * interrupt takes. There is no recursion.
  *
  *
  * THE 20 BYTES
@@ -120,6 +120,9 @@
 /* The longest book in bytes, and the last tick that may be asked about. */
 #define LINE_BOOK_BYTES 3584
 #define LINE_LAST_TICK UINT64_C(1099511627776)
+
+/* Stack to set aside for a call: what was measured, and some more. */
+#define LINE_STACK_BYTES 4096
 
 /* What comes back. */
 #define LINE_DONE 0
