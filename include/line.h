@@ -13,8 +13,9 @@
  *
  *     cc -Iinclude master.c target/staticlib/libmasters.a
  *
- * The archive is for x86-64 alone, with the System V calling convention, as on Linux. It uses SSE2 registers. Of
- * the C library it needs memset and nothing else.
+ * The archive is for x86-64 alone, with the System V calling convention, as on Linux: the stack is aligned
+ * to 16 bytes at a call, and SSE2 registers are used, which an interrupt that calls these functions must
+ * save. Of the C library the archive needs memset and nothing else.
  *
  *
  * THE ARGUMENTS
@@ -25,15 +26,15 @@
  * answer, answer_len  The lent bytes, 20 or more. Bytes past the twentieth stay as they are. What stood in the first
  *                     20 does not matter.
  *
- * A pointer must point to as many bytes as its length says. With length 0 it may be any pointer, NULL too. Book and answer must not overlap. No
- * alignment is needed.
+ * A pointer must point to as many bytes as its length says. With length 0 it may be any pointer, NULL too.
+ * Book and answer must not overlap. No alignment is needed.
  *
- * The functions have no state, use no heap, make no system call and take no lock: they may be called again before a call is over, from
- * other threads or an interrupt, as long as the lent bytes are not the same.
+ * The functions have no state, use no heap, make no system call and take no lock: they may be called again
+ * before a call is over, from other threads or an interrupt, as long as the lent bytes are not the same.
  *
- * Stack: a call took at most 3,584 bytes, its return address included, when it was measured (`make stack`, docs/FIGURES.md);
- * set aside LINE_STACK_BYTES. That is a measurement of this archive and not a proof. It counts memset, and not what an
- * interrupt takes. There is no recursion.
+ * Stack: a call took at most 3,584 bytes, its return address included, when it was measured (`make stack`,
+ * docs/FIGURES.md); set aside LINE_STACK_BYTES. That is a measurement of this archive and not a proof. It
+ * counts memset, and not what an interrupt takes. There is no recursion.
  *
  *
  * THE 20 BYTES
@@ -52,8 +53,9 @@
  *
  * THE NUMBERS
  *
- * No other number comes back. They stand in the order in which they are asked: the first that applies is given, for the lowest
- * block or probe that it applies to; 21, 22 and 23 are asked of block 0, then of block 1, and so on.
+ * No other number comes back. They stand in the order in which they are asked: the first that applies is
+ * given, for the lowest block or probe that it applies to; 21, 22 and 23 are asked of block 0, then of
+ * block 1, and so on.
  *
  *     no.  meaning                                                   index   second index   tick
  *      7   answer_len is below 20; nothing is written                 -       -              -
@@ -77,17 +79,20 @@
  *          which a probe starts a read; the lowest probe then
  *      0   line_next_start: the book has no probe                     mark    0              0
  *
- * line_check never gives 11; line_holder and line_next_start never give 10. Numbers 1, 2 and 24, which other parts of this software know, never come
- * back: a book that is read has columns of one length with at most 256 entries.
+ * line_check never gives 11; line_holder and line_next_start never give 10. Numbers 1, 2 and 24, which
+ * other parts of this software know, never come back: a book that is read has columns of one length with at
+ * most 256 entries.
  *
- * Probes and blocks are numbered from 0. With 10 the index is below the second index: the pair with the least first
- * number, then the least second, and the first tick that these two share; another pair may meet earlier. line_holder and line_next_start answer for
- * a list that is not clean too. A next start is at most 1,048,575 ticks after the tick asked about, so it may be above 2^40.
+ * Probes and blocks are numbered from 0. With 10 the index is below the second index: the pair with the
+ * least first number, then the least second, and the first tick that these two share; another pair may meet
+ * earlier. line_holder and line_next_start answer for a list that is not clean too. A next start is at most
+ * 1,048,575 ticks after the tick asked about, so it may be above 2^40.
  *
  *
  * THE BOOK
  *
- * One block of 512 bytes for each 41 probes or part of 41, one block for no probe: at most seven. Numbers stand least byte first.
+ * One block of 512 bytes for each 41 probes or part of 41, one block for no probe: at most seven. Numbers
+ * stand least byte first.
  *
  *     bytes   0 to   1   number of this block, from 0
  *     bytes   2 to   3   blocks in the book
@@ -98,8 +103,8 @@
  *     bytes 504 to 507   the sum of bytes 0 to 503
  *     bytes 508 to 511   the sum of (place + 1) times byte, over bytes 0 to 503
  *
- * A probe with period T, read length p and start s holds tick t when t >= s and the remainder of t - s by T is below p. It starts a read on
- * tick s, and again each T ticks.
+ * A probe with period T, read length p and start s holds tick t when t >= s and the remainder of t - s by T
+ * is below p. It starts a read on tick s, and again each T ticks.
  */
 #ifndef LINE_H
 #define LINE_H
@@ -143,13 +148,16 @@
 extern "C" {
 #endif
 
-/* Whether no two probes of the book ever hold the wire on the same tick: 0, or 10 with the pair and its first shared tick. */
+/* Whether no two probes ever hold the wire on the same tick: 0, or 10 with the pair and its first shared tick. */
 uint32_t line_check(const uint8_t *book, size_t book_len, uint8_t *answer, size_t answer_len);
 
 /* The lowest probe that holds the tick, as the index; LINE_NONE when the wire is idle. */
 uint32_t line_holder(const uint8_t *book, size_t book_len, uint64_t tick, uint8_t *answer, size_t answer_len);
 
-/* The least tick, from the one asked on, at which a probe starts a read, and the lowest such probe as the index; LINE_NONE where the book has no probe. */
+/*
+ * The least tick, from the one asked on, at which a probe starts a read, and the lowest such probe as the index;
+ * LINE_NONE where the book has no probe.
+ */
 uint32_t line_next_start(const uint8_t *book, size_t book_len, uint64_t tick, uint8_t *answer, size_t answer_len);
 
 #ifdef __cplusplus

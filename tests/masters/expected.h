@@ -12,9 +12,17 @@
 enum { BLOCK = 512, RECORDS = 41, SUMMED = 504, PROBES = 256, LARGEST = 3584, ANSWER = 20 };
 enum asked { CHECK, HOLDER, NEXT_START, FUNCTIONS };
 
-struct answer { uint32_t number, index, second; uint64_t tick; };
-struct probe { uint32_t period, length, start; };
-struct line { size_t n; struct probe probes[PROBES]; };
+struct answer {
+    uint32_t number, index, second;
+    uint64_t tick;
+};
+struct probe {
+    uint32_t period, length, start;
+};
+struct line {
+    size_t n;
+    struct probe probes[PROBES];
+};
 
 static void put(uint8_t *bytes, size_t count, uint64_t value)
 {
@@ -86,7 +94,7 @@ static size_t make_book(const struct line *line, uint8_t *book)
 
 static struct answer says(uint32_t number, uint32_t index, uint32_t second, uint64_t tick)
 {
-    struct answer answer = { number, index, second, tick };
+    struct answer answer = {number, index, second, tick};
     return answer;
 }
 
@@ -99,8 +107,8 @@ static uint32_t block_verdict(const uint8_t *book, size_t size, size_t b)
     sums(block, &plain, &by_place);
     if (get(block + 504, 4) != plain || get(block + 508, 4) != by_place)
         return 21;
-    if (n > PROBES || blocks_for(n) * BLOCK != size || get(block, 2) != b || get(block + 2, 2) != size / BLOCK
-        || get(block + 4, 2) != records_in(n, b) || get(block + 6, 2) != n || get(block + 8, 4) != 0)
+    if (n > PROBES || blocks_for(n) * BLOCK != size || get(block, 2) != b || get(block + 2, 2) != size / BLOCK ||
+        get(block + 4, 2) != records_in(n, b) || get(block + 6, 2) != n || get(block + 8, 4) != 0)
         return 22;
     for (size_t k = 12 + 12 * records_in(n, b); k < SUMMED; k++)
         if (block[k] != 0)
@@ -165,7 +173,7 @@ static int applies(const struct line *line, uint32_t number, size_t i)
 /* Numbers 3, 4, 5, 6 and 9, each over the whole table. */
 static struct answer judge(const struct line *line)
 {
-    static const uint32_t order[] = { 3, 4, 5, 6, 9 };
+    static const uint32_t order[] = {3, 4, 5, 6, 9};
     for (size_t k = 0; k < sizeof order / sizeof *order; k++) {
         if (order[k] == 6) {
             if (line->n > 0 && longest_period(line) / least_period(line) > 4096)
@@ -189,13 +197,15 @@ static int starts(const struct probe *probe, uint64_t tick)
     return tick >= probe->start && (tick - probe->start) % probe->period == 0;
 }
 
-/* The first pair that shares a tick: two chained probes that have not met in the longer period after both have begun never do. */
+/* The first pair that shares a tick: two chained probes that have not met in the longer period after both have begun
+ * never do. */
 static struct answer walk_check(const struct line *line)
 {
     for (size_t i = 0; i < line->n; i++)
         for (size_t j = i + 1; j < line->n; j++) {
             const struct probe *a = &line->probes[i], *b = &line->probes[j];
-            uint64_t end = (uint64_t)(a->start > b->start ? a->start : b->start) + (a->period > b->period ? a->period : b->period);
+            uint64_t end =
+                (uint64_t)(a->start > b->start ? a->start : b->start) + (a->period > b->period ? a->period : b->period);
             for (uint64_t tick = 0; tick < end; tick++)
                 if (holds(a, tick) && holds(b, tick))
                     return says(10, (uint32_t)i, (uint32_t)j, tick);

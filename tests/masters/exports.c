@@ -1,8 +1,8 @@
 /*
  * The three exports for masters, called from C: every number, all 20 bytes, buffers of exactly their size.
  *
- * The archive itself is not watched by the sanitizers, so beside heap blocks each call is made on memory between two pages that may
- * not be touched: a byte read or written outside a slice ends the run.
+ * The archive itself is not watched by the sanitizers, so beside heap blocks each call is made on memory between two
+ * pages that may not be touched: a byte read or written outside a slice ends the run.
  */
 #define _DEFAULT_SOURCE
 #include <stdio.h>
@@ -12,18 +12,21 @@
 #include "line.h"
 
 static unsigned long calls, wrong, reached[FUNCTIONS][32];
-static const char *const names[FUNCTIONS] = { "line_check", "line_holder", "line_next_start" };
+static const char *const names[FUNCTIONS] = {"line_check", "line_holder", "line_next_start"};
 
 /* Where the slices of a call lie. */
 enum place { HEAP, ODD, BEFORE_FENCE, AFTER_FENCE, PLACES };
 enum { PAGE = 4096, ROOM = 2 * PAGE };
-struct fence { uint8_t *low; };
+struct fence {
+    uint8_t *low;
+};
 static struct fence fences[2];
 
 static void raise_fence(struct fence *fence)
 {
     uint8_t *memory = mmap(NULL, ROOM + 2 * PAGE, PROT_READ | PROT_WRITE, MAP_PRIVATE | MAP_ANONYMOUS, -1, 0);
-    if (memory == MAP_FAILED || mprotect(memory, PAGE, PROT_NONE) != 0 || mprotect(memory + PAGE + ROOM, PAGE, PROT_NONE) != 0) {
+    if (memory == MAP_FAILED || mprotect(memory, PAGE, PROT_NONE) != 0 ||
+        mprotect(memory + PAGE + ROOM, PAGE, PROT_NONE) != 0) {
         puts("no fenced memory");
         exit(2);
     }
@@ -55,12 +58,14 @@ static uint32_t call(enum asked asked, const uint8_t *book, size_t size, uint64_
 }
 
 /* One thing that must hold; what does not is shown with its book. */
-static int hold(int good, const char *what, enum asked asked, const uint8_t *book, size_t size, uint64_t tick, size_t length)
+static int hold(int good, const char *what, enum asked asked, const uint8_t *book, size_t size, uint64_t tick,
+                size_t length)
 {
     if (good)
         return 1;
     if (++wrong <= 5) {
-        printf("%s, tick %llu, %zu bytes lent: %s\n  book of %zu bytes:", names[asked], (unsigned long long)tick, length, what, size);
+        printf("%s, tick %llu, %zu bytes lent: %s\n  book of %zu bytes:", names[asked], (unsigned long long)tick,
+               length, what, size);
         for (size_t k = 0; k < size && k < LARGEST; k++)
             printf(" %02x", book[k]);
         puts("");
@@ -75,7 +80,8 @@ static void fill(uint8_t *bytes, size_t length, uint8_t seed)
 }
 
 /* One call in one place: the number, the 20 bytes, the bytes past them, the book untouched. */
-static void one(enum asked asked, const uint8_t *book, size_t size, uint64_t tick, struct answer wanted, size_t length, enum place place)
+static void one(enum asked asked, const uint8_t *book, size_t size, uint64_t tick, struct answer wanted, size_t length,
+                enum place place)
 {
     void *owned_book, *owned_answer;
     uint8_t *given = lend(place, &fences[0], size, &owned_book);
@@ -108,7 +114,7 @@ static void one(enum asked asked, const uint8_t *book, size_t size, uint64_t tic
 /* One question in every place and with every length of the lent bytes. */
 static void ask_for(enum asked asked, const uint8_t *book, size_t size, uint64_t tick, struct answer wanted)
 {
-    static const size_t lengths[] = { 0, 1, 19, 20, 21, 64, 255 };
+    static const size_t lengths[] = {0, 1, 19, 20, 21, 64, 255};
     for (size_t k = 0; k < sizeof lengths / sizeof *lengths; k++)
         for (int place = 0; place < PLACES; place++)
             one(asked, book, size, tick, wanted, lengths[k], (enum place)place);
@@ -129,7 +135,8 @@ static void ask_all(const uint8_t *book, size_t size, uint64_t tick)
 static void ask_some(int first, int last, const uint8_t *book, size_t size, uint64_t tick)
 {
     for (int asked = first; asked <= last; asked++)
-        one((enum asked)asked, book, size, tick, expected((enum asked)asked, book, size, tick), ANSWER + calls % 3, (enum place)(calls % PLACES));
+        one((enum asked)asked, book, size, tick, expected((enum asked)asked, book, size, tick), ANSWER + calls % 3,
+            (enum place)(calls % PLACES));
 }
 
 /* A case of the bench sheet, with its answers as document 01 has them or as they follow by hand. */
@@ -141,56 +148,69 @@ struct bench {
 };
 
 #define IDLE 4294967295u
-#define ALL(...) { { __VA_ARGS__ }, { __VA_ARGS__ }, { __VA_ARGS__ } }
+#define ALL(...) {{__VA_ARGS__}, {__VA_ARGS__}, {__VA_ARGS__}}
 static const struct bench sheet[] = {
-    { 5, { { 10, 3, 0 }, { 20, 4, 13 }, { 20, 5, 3 }, { 60, 2, 8 }, { 60, 3, 17 } }, 17, { { 0, 0, 0, 0 }, { 0, 4, 0, 0 }, { 0, 4, 0, 17 } } },
-    { 6, { { 10, 3, 0 }, { 20, 4, 13 }, { 20, 5, 3 }, { 60, 2, 8 }, { 60, 3, 17 }, { 60, 3, 37 } }, 0, { { 0, 0, 0, 0 }, { 0, 0, 0, 0 }, { 0, 0, 0, 0 } } },
-    { 6, { { 10, 3, 0 }, { 20, 4, 13 }, { 20, 5, 3 }, { 60, 2, 8 }, { 60, 3, 17 }, { 60, 3, 47 } }, 47, { { 10, 2, 5, 47 }, { 0, 2, 0, 0 }, { 0, 5, 0, 47 } } },
-    { 2, { { 10, 6, 0 }, { 10, 5, IDLE } }, 0, ALL(9, 1, 0, 0) },
-    { 2, { { 10, 6, 0 }, { 10, 4, 6 } }, 9, { { 0, 0, 0, 0 }, { 0, 1, 0, 0 }, { 0, 0, 0, 10 } } },
-    { 7, { { 8, 2, 0 }, { 16, 2, 2 }, { 16, 2, 10 }, { 32, 4, 4 }, { 32, 4, 12 }, { 32, 4, 20 }, { 32, 4, 28 } }, 31,
-      { { 0, 0, 0, 0 }, { 0, 6, 0, 0 }, { 0, 0, 0, 32 } } },
-    { 2, { { 10, 5, 8 }, { 20, 1, 1 } }, 2, { { 10, 0, 1, 21 }, { 0, IDLE, 0, 0 }, { 0, 0, 0, 8 } } },
-    { 1, { { 10, 10, 0 } }, UINT64_C(1099511627776), { { 0, 0, 0, 0 }, { 0, 0, 0, 0 }, { 0, 0, 0, UINT64_C(1099511627780) } } },
-    { 1, { { 10, 10, 9 } }, 8, { { 0, 0, 0, 0 }, { 0, IDLE, 0, 0 }, { 0, 0, 0, 9 } } },
-    { 1, { { 10, 10, 9 } }, UINT64_C(1099511627777), { { 0, 0, 0, 0 }, { 11, 0, 0, 0 }, { 11, 0, 0, 0 } } },
-    { 1, { { 10, 11, 0 } }, UINT64_MAX, ALL(4, 0, 0, 0) },
-    { 2, { { 10, 1, 0 }, { 10, 0, 0 } }, 0, ALL(4, 1, 0, 0) },
-    { 2, { { 4, 1, 0 }, { 6, 1, 0 } }, 0, ALL(5, 1, 0, 0) },
-    { 3, { { 4, 1, 0 }, { 8, 1, 1 }, { 12, 1, 2 } }, 0, ALL(5, 2, 0, 0) },
-    { 2, { { 1, 1, 0 }, { 4096, 1, 0 } }, 0, { { 10, 0, 1, 0 }, { 0, 0, 0, 0 }, { 0, 0, 0, 0 } } },
-    { 2, { { 1, 1, 0 }, { 8192, 1, 0 } }, 0, ALL(6, 0, 0, 0) },
-    { 2, { { 1048576, 256, 0 }, { 256, 256, 300 } }, 0, ALL(9, 1, 0, 0) },
-    { 3, { { 0, 0, 0 }, { 10, 11, 0 }, { 1048577, 1, 0 } }, 0, ALL(3, 0, 0, 0) },
-    { 2, { { 10, 0, 0 }, { 1048577, 1, 0 } }, 0, ALL(3, 1, 0, 0) },
-    { 1, { { 10, 5, 8 } }, 12, { { 0, 0, 0, 0 }, { 0, 0, 0, 0 }, { 0, 0, 0, 18 } } },
-    { 1, { { 10, 5, 10 } }, UINT64_MAX, ALL(9, 0, 0, 0) },
-    { 0, { { 0, 0, 0 } }, 0, { { 0, 0, 0, 0 }, { 0, IDLE, 0, 0 }, { 0, IDLE, 0, 0 } } },
-    { 0, { { 0, 0, 0 } }, UINT64_MAX, { { 0, 0, 0, 0 }, { 11, 0, 0, 0 }, { 11, 0, 0, 0 } } },
+    {5,
+     {{10, 3, 0}, {20, 4, 13}, {20, 5, 3}, {60, 2, 8}, {60, 3, 17}},
+     17,
+     {{0, 0, 0, 0}, {0, 4, 0, 0}, {0, 4, 0, 17}}},
+    {6,
+     {{10, 3, 0}, {20, 4, 13}, {20, 5, 3}, {60, 2, 8}, {60, 3, 17}, {60, 3, 37}},
+     0,
+     {{0, 0, 0, 0}, {0, 0, 0, 0}, {0, 0, 0, 0}}},
+    {6,
+     {{10, 3, 0}, {20, 4, 13}, {20, 5, 3}, {60, 2, 8}, {60, 3, 17}, {60, 3, 47}},
+     47,
+     {{10, 2, 5, 47}, {0, 2, 0, 0}, {0, 5, 0, 47}}},
+    {2, {{10, 6, 0}, {10, 5, IDLE}}, 0, ALL(9, 1, 0, 0)},
+    {2, {{10, 6, 0}, {10, 4, 6}}, 9, {{0, 0, 0, 0}, {0, 1, 0, 0}, {0, 0, 0, 10}}},
+    {7,
+     {{8, 2, 0}, {16, 2, 2}, {16, 2, 10}, {32, 4, 4}, {32, 4, 12}, {32, 4, 20}, {32, 4, 28}},
+     31,
+     {{0, 0, 0, 0}, {0, 6, 0, 0}, {0, 0, 0, 32}}},
+    {2, {{10, 5, 8}, {20, 1, 1}}, 2, {{10, 0, 1, 21}, {0, IDLE, 0, 0}, {0, 0, 0, 8}}},
+    {1, {{10, 10, 0}}, UINT64_C(1099511627776), {{0, 0, 0, 0}, {0, 0, 0, 0}, {0, 0, 0, UINT64_C(1099511627780)}}},
+    {1, {{10, 10, 9}}, 8, {{0, 0, 0, 0}, {0, IDLE, 0, 0}, {0, 0, 0, 9}}},
+    {1, {{10, 10, 9}}, UINT64_C(1099511627777), {{0, 0, 0, 0}, {11, 0, 0, 0}, {11, 0, 0, 0}}},
+    {1, {{10, 11, 0}}, UINT64_MAX, ALL(4, 0, 0, 0)},
+    {2, {{10, 1, 0}, {10, 0, 0}}, 0, ALL(4, 1, 0, 0)},
+    {2, {{4, 1, 0}, {6, 1, 0}}, 0, ALL(5, 1, 0, 0)},
+    {3, {{4, 1, 0}, {8, 1, 1}, {12, 1, 2}}, 0, ALL(5, 2, 0, 0)},
+    {2, {{1, 1, 0}, {4096, 1, 0}}, 0, {{10, 0, 1, 0}, {0, 0, 0, 0}, {0, 0, 0, 0}}},
+    {2, {{1, 1, 0}, {8192, 1, 0}}, 0, ALL(6, 0, 0, 0)},
+    {2, {{1048576, 256, 0}, {256, 256, 300}}, 0, ALL(9, 1, 0, 0)},
+    {3, {{0, 0, 0}, {10, 11, 0}, {1048577, 1, 0}}, 0, ALL(3, 0, 0, 0)},
+    {2, {{10, 0, 0}, {1048577, 1, 0}}, 0, ALL(3, 1, 0, 0)},
+    {1, {{10, 5, 8}}, 12, {{0, 0, 0, 0}, {0, 0, 0, 0}, {0, 0, 0, 18}}},
+    {1, {{10, 5, 10}}, UINT64_MAX, ALL(9, 0, 0, 0)},
+    {0, {{0, 0, 0}}, 0, {{0, 0, 0, 0}, {0, IDLE, 0, 0}, {0, IDLE, 0, 0}}},
+    {0, {{0, 0, 0}}, UINT64_MAX, {{0, 0, 0, 0}, {11, 0, 0, 0}, {11, 0, 0, 0}}},
 };
 
 static void bench_sheet(void)
 {
     for (size_t k = 0; k < sizeof sheet / sizeof *sheet; k++) {
-        struct line line = { sheet[k].n, { { 0, 0, 0 } } };
+        struct line line = {sheet[k].n, {{0, 0, 0}}};
         uint8_t book[LARGEST];
         memcpy(line.probes, sheet[k].probes, sheet[k].n * sizeof(struct probe));
         size_t size = make_book(&line, book);
         for (int asked = 0; asked < FUNCTIONS; asked++) {
-            struct answer here = sheet[k].answers[asked], walked = expected((enum asked)asked, book, size, sheet[k].tick);
-            int same = here.number == walked.number && here.index == walked.index && here.second == walked.second && here.tick == walked.tick;
+            struct answer here = sheet[k].answers[asked],
+                          walked = expected((enum asked)asked, book, size, sheet[k].tick);
+            int same = here.number == walked.number && here.index == walked.index && here.second == walked.second &&
+                       here.tick == walked.tick;
             hold(same, "the walk and the bench sheet differ", (enum asked)asked, book, size, sheet[k].tick, 0);
             ask_for((enum asked)asked, book, size, sheet[k].tick, here);
         }
     }
 }
 
-/* n probes of period 512 whose reads of one tick stand side by side. */
+/* n probes of period 512 with reads of one tick, on every second tick. */
 static size_t row_book(size_t n, uint8_t *book)
 {
-    struct line line = { n, { { 0, 0, 0 } } };
+    struct line line = {n, {{0, 0, 0}}};
     for (size_t i = 0; i < n; i++) {
-        struct probe probe = { 512, 1, (uint32_t)(2 * i % 511) };
+        struct probe probe = {512, 1, (uint32_t)(2 * i % 511)};
         line.probes[i] = probe;
     }
     return make_book(&line, book);
@@ -199,8 +219,20 @@ static size_t row_book(size_t n, uint8_t *book)
 /* Books of each size: 41 probes take one block, 42 two, 256 seven. */
 static void sizes(void)
 {
-    static const size_t counts[][2] = { { 0, 1 }, { 1, 1 }, { 40, 1 }, { 41, 1 }, { 42, 2 }, { 82, 2 }, { 83, 3 }, { 246, 6 }, { 247, 7 }, { 255, 7 }, { 256, 7 } };
-    static const uint64_t ticks[] = { 0, 1, 2, 509, 510, 511, 512, 513, UINT64_C(1099511627775), UINT64_C(1099511627776), UINT64_C(1099511627777), UINT64_MAX };
+    static const size_t counts[][2] = {{0, 1},  {1, 1},   {40, 1},  {41, 1},  {42, 2}, {82, 2},
+                                       {83, 3}, {246, 6}, {247, 7}, {255, 7}, {256, 7}};
+    static const uint64_t ticks[] = {0,
+                                     1,
+                                     2,
+                                     509,
+                                     510,
+                                     511,
+                                     512,
+                                     513,
+                                     UINT64_C(1099511627775),
+                                     UINT64_C(1099511627776),
+                                     UINT64_C(1099511627777),
+                                     UINT64_MAX};
     for (size_t k = 0; k < sizeof counts / sizeof *counts; k++) {
         uint8_t book[LARGEST];
         size_t size = row_book(counts[k][0], book);
@@ -252,7 +284,7 @@ static void refusals_of_books(void)
     uint8_t book[LARGEST + 512], copy[LARGEST];
     memset(book, 0, sizeof book);
     size_t size = row_book(256, book);
-    static const uint32_t beyond[] = { 0, 1, 246, 255, 257, 287, 288, 65535 };
+    static const uint32_t beyond[] = {0, 1, 246, 255, 257, 287, 288, 65535};
     for (size_t k = 0; k < sizeof beyond / sizeof *beyond; k++)
         field(book, size, 7, 6, beyond[k], beyond[k] == 255 ? says(22, 6, 0, 0) : says(22, 0, 0, 0));
     for (size_t b = 0; b < 7; b++) {
@@ -294,18 +326,26 @@ static void refusals_of_books(void)
 /* Slices of length 0 with any pointer, and a book that is too long and may not be read. */
 static void empty_slices(void)
 {
-    uint8_t book[LARGEST], answer[ANSWER], twenty[ANSWER] = { 20 };
+    uint8_t book[LARGEST], answer[ANSWER], twenty[ANSWER] = {20};
     size_t size = row_book(1, book);
-    const uint8_t *nowhere[] = { NULL, (const uint8_t *)1, fences[0].low - 1, fences[0].low + ROOM, book + sizeof book, (const uint8_t *)(UINTPTR_MAX - 7) };
+    const uint8_t *nowhere[] = {NULL,
+                                (const uint8_t *)1,
+                                fences[0].low - 1,
+                                fences[0].low + ROOM,
+                                book + sizeof book,
+                                (const uint8_t *)(UINTPTR_MAX - 7)};
     for (int asked = 0; asked < FUNCTIONS; asked++)
         for (size_t k = 0; k < sizeof nowhere / sizeof *nowhere; k++) {
             uint8_t *lent = (uint8_t *)(uintptr_t)nowhere[k];
             memset(answer, 0xEE, sizeof answer);
             uint32_t number = call((enum asked)asked, nowhere[k], 0, 0, answer, sizeof answer);
-            hold(number == 20 && memcmp(answer, twenty, ANSWER) == 0, "no book, and not 20", (enum asked)asked, book, 0, 0, ANSWER);
+            hold(number == 20 && memcmp(answer, twenty, ANSWER) == 0, "no book, and not 20", (enum asked)asked, book, 0,
+                 0, ANSWER);
             reached[asked][20]++;
-            hold(call((enum asked)asked, book, size, 0, lent, 0) == 7, "no bytes lent, and not 7", (enum asked)asked, book, size, 0, 0);
-            hold(call((enum asked)asked, nowhere[k], 0, 0, lent, 0) == 7, "no bytes at all, and not 7", (enum asked)asked, book, 0, 0, 0);
+            hold(call((enum asked)asked, book, size, 0, lent, 0) == 7, "no bytes lent, and not 7", (enum asked)asked,
+                 book, size, 0, 0);
+            hold(call((enum asked)asked, nowhere[k], 0, 0, lent, 0) == 7, "no bytes at all, and not 7",
+                 (enum asked)asked, book, 0, 0, 0);
             reached[asked][7] += 2;
             calls += 3;
         }
@@ -319,26 +359,29 @@ static void empty_slices(void)
         for (size_t length = LARGEST + 1; length <= huge; length = length < 4096 ? 4096 : 2 * length) {
             memset(answer, 0xEE, sizeof answer);
             uint32_t number = call((enum asked)asked, shut, length, 0, answer, sizeof answer);
-            hold(number == 20 && memcmp(answer, twenty, ANSWER) == 0, "a long book, and not 20", (enum asked)asked, book, 0, length, ANSWER);
+            hold(number == 20 && memcmp(answer, twenty, ANSWER) == 0, "a long book, and not 20", (enum asked)asked,
+                 book, 0, length, ANSWER);
             reached[asked][20]++;
             calls++;
         }
     /* and with fewer than 20 bytes no book is looked at */
     for (int asked = 0; asked < FUNCTIONS; asked++) {
-        hold(call((enum asked)asked, shut, 512, UINT64_MAX, answer, 19) == 7, "7 is not before all else", (enum asked)asked, book, 0, 0, 19);
+        hold(call((enum asked)asked, shut, 512, UINT64_MAX, answer, 19) == 7, "7 is not before all else",
+             (enum asked)asked, book, 0, 0, 19);
         reached[asked][7]++;
         calls++;
     }
     munmap(shut, huge);
 }
 
-/* Every line of three probes with the periods 2, 4 and 12 in each turn, reads of one or two ticks; every tick of two longest periods. */
+/* Every line of three probes with the periods 2, 4 and 12 in each turn, reads of one or two ticks; every tick of two
+ * longest periods. */
 static void small_lines(void)
 {
-    static const uint32_t periods[] = { 2, 4, 12 };
+    static const uint32_t periods[] = {2, 4, 12};
     uint8_t book[LARGEST];
     for (uint32_t code = 0; code < 3 * 8 * 2 * 4 * 12; code++) {
-        struct line line = { 3, { { 0, 0, 0 } } };
+        struct line line = {3, {{0, 0, 0}}};
         uint32_t turn = code % 3, rest = code / 3;
         for (uint32_t k = 0; k < 3; k++) {
             struct probe *probe = &line.probes[(k + turn) % 3];
@@ -358,8 +401,9 @@ static void small_lines(void)
 /* Each number of each export at least once, and no other. */
 static int all_reached(void)
 {
-    static const uint8_t often[FUNCTIONS][13] = {
-        { 0, 3, 4, 5, 6, 7, 9, 10, 20, 21, 22, 23, 32 }, { 0, 3, 4, 5, 6, 7, 9, 11, 20, 21, 22, 23, 32 }, { 0, 3, 4, 5, 6, 7, 9, 11, 20, 21, 22, 23, 32 } };
+    static const uint8_t often[FUNCTIONS][13] = {{0, 3, 4, 5, 6, 7, 9, 10, 20, 21, 22, 23, 32},
+                                                 {0, 3, 4, 5, 6, 7, 9, 11, 20, 21, 22, 23, 32},
+                                                 {0, 3, 4, 5, 6, 7, 9, 11, 20, 21, 22, 23, 32}};
     int good = 1;
     for (int asked = 0; asked < FUNCTIONS; asked++) {
         printf("%s:", names[asked]);
