@@ -4,8 +4,9 @@
 # make check    proves what changed
 # make fmt      lays out every source
 # make bench    measures the verified calls beside plain Rust
+# make stack    measures the stack that calls and programs take
 SHELL = /bin/sh
-.PHONY: plan build test test-rest check fmt bench
+.PHONY: plan build test test-rest check fmt bench stack
 
 plan: build
 	@bin/plan <examples/pasteuriser.book
@@ -32,3 +33,6 @@ fmt:
 bench:
 	@rt staticlib trial >/dev/null
 	@cargo run --offline --locked --quiet --release --manifest-path tests/reference/compare/Cargo.toml --bin bench
+
+stack:
+	@tests/masters/stack.sh

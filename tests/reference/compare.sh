@@ -1,14 +1,18 @@
 #!/bin/sh
-# Every public call against the independent program in reference/, through the archive of trial, on random and boundary inputs.
+# Every public call, through the archive of trial, the exports of masters and the two programs as processes, against the independent
+# program in reference/, on random and boundary inputs.
 set -u
 cd "$(dirname "$0")/../.." || exit 2
-what="reference: every public call answers and writes as the independent program does"
+what="reference: every public call, export and program answers and writes as the independent program does"
 said=$(mktemp) || exit 2
 trap 'rm -f "$said"' EXIT
 fail() { echo "FAILED: $what ($*)"; exit 1; }
 
 [ "$(uname -m)" = x86_64 ] || fail "archives link on x86-64 alone, and this machine is $(uname -m)"
-rt staticlib trial >"$said" 2>&1 || { cat "$said"; fail "there is no archive of trial"; }
+for name in trial masters; do
+    sh tests/archive $name >"$said" 2>&1 || { cat "$said"; fail "there is no archive of $name"; }
+done
+rt check plan check_list >"$said" 2>&1 || { cat "$said"; fail "the programs are not there"; }
 package="--offline --locked --quiet --manifest-path tests/reference/compare/Cargo.toml"
 # shellcheck disable=SC2086
 cargo build $package --jobs 1 --profile checked --bin compare >"$said" 2>&1 || { cat "$said"; fail "the comparison cannot be built"; }

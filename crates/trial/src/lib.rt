@@ -103,3 +103,13 @@ pub extern "C" fn trial_write(
 ) {
     tell(book::write(periods, lengths, starts, bytes), out);
 }
+
+#[no_mangle]
+pub extern "C" fn trial_plan_page(book: &[u8], page: &mut [u8], out: &mut [u32]) {
+    tell(pages::plan_page(book, page), out);
+}
+
+#[no_mangle]
+pub extern "C" fn trial_check_page(book: &[u8], page: &mut [u8], out: &mut [u32]) {
+    tell(pages::check_page(book, page), out);
+}

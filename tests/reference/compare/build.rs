@@ -1,4 +1,4 @@
-//! Links the archive of the exports, which `rt staticlib trial` writes.
+//! Links the archives of trial and masters, which `rt staticlib` writes.
 
 use std::path::Path;
 
@@ -6,9 +6,9 @@ fn main() {
     let top = Path::new(env!("CARGO_MANIFEST_DIR")).join("../../..");
     let folder = top.join("target/staticlib");
     println!("cargo:rustc-link-search=native={}", folder.display());
-    println!("cargo:rustc-link-lib=static=trial");
-    println!(
-        "cargo:rerun-if-changed={}",
-        folder.join("libtrial.a").display()
-    );
+    for name in ["trial", "masters"] {
+        println!("cargo:rustc-link-lib=static={name}");
+        let archive = folder.join(format!("lib{name}.a"));
+        println!("cargo:rerun-if-changed={}", archive.display());
+    }
 }

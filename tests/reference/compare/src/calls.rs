@@ -1,4 +1,4 @@
-//! The exports of `trial` as safe functions: each slice crosses as its address and its length.
+//! The exports of `trial` and `masters` as safe functions: each slice crosses as its address and its length.
 
 use reference::answer::Answer;
 
@@ -108,6 +108,42 @@ mod raw {
             out: *mut u32,
             out_len: usize,
         );
+        pub fn trial_plan_page(
+            book: *const u8,
+            book_len: usize,
+            page: *mut u8,
+            page_len: usize,
+            out: *mut u32,
+            out_len: usize,
+        );
+        pub fn trial_check_page(
+            book: *const u8,
+            book_len: usize,
+            page: *mut u8,
+            page_len: usize,
+            out: *mut u32,
+            out_len: usize,
+        );
+        pub fn line_check(
+            book: *const u8,
+            book_len: usize,
+            answer: *mut u8,
+            answer_len: usize,
+        ) -> u32;
+        pub fn line_holder(
+            book: *const u8,
+            book_len: usize,
+            tick: u64,
+            answer: *mut u8,
+            answer_len: usize,
+        ) -> u32;
+        pub fn line_next_start(
+            book: *const u8,
+            book_len: usize,
+            tick: u64,
+            answer: *mut u8,
+            answer_len: usize,
+        ) -> u32;
     }
 }
 
@@ -188,6 +224,32 @@ pub fn read(bytes: &[u8], periods: &mut [u32], lengths: &mut [u32], starts: &mut
 
 pub fn write(periods: &[u32], lengths: &[u32], starts: &[u32], bytes: &mut [u8]) -> Answer {
     call!(trial_write; periods, lengths, starts;; bytes)
+}
+
+pub fn plan_page(book: &[u8], page: &mut [u8]) -> Answer {
+    call!(trial_plan_page; book;; page)
+}
+
+pub fn check_page(book: &[u8], page: &mut [u8]) -> Answer {
+    call!(trial_check_page; book;; page)
+}
+
+/// The checker's export; the tick is not asked for.
+pub fn line_check(book: &[u8], _tick: u64, lent: &mut [u8]) -> u32 {
+    // As above.
+    unsafe { raw::line_check(book.as_ptr(), book.len(), lent.as_mut_ptr(), lent.len()) }
+}
+
+pub fn line_holder(book: &[u8], tick: u64, lent: &mut [u8]) -> u32 {
+    let (address, length) = (lent.as_mut_ptr(), lent.len());
+    // As above.
+    unsafe { raw::line_holder(book.as_ptr(), book.len(), tick, address, length) }
+}
+
+pub fn line_next_start(book: &[u8], tick: u64, lent: &mut [u8]) -> u32 {
+    let (address, length) = (lent.as_mut_ptr(), lent.len());
+    // As above.
+    unsafe { raw::line_next_start(book.as_ptr(), book.len(), tick, address, length) }
 }
 
 /// Whether a call with fewer than five lent numbers leaves them as they are.

@@ -5,4 +5,5 @@ pub mod classes;
 pub mod fast;
 pub mod held;
 pub mod inputs;
+pub mod programs;
 pub mod rooms;
