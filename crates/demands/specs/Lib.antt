@@ -7,3 +7,4 @@ pub mod PlanPasses
 pub mod Rectangles
 pub mod Busy
 pub mod BookOrder
+pub mod Edges

@@ -1,0 +1,88 @@
+-- EDGES THAT DOCUMENT 01 NAMES: the empty table, and the entries that no call writes.
+--     empty-table           "The empty table is sound: it plans with answer 0, has 0 rows, is clean, and writes nothing."
+--     plan-past             "Entries past the table's n probes .. are never written": of the starts, whatever the answer
+-- Not said here: the same of fills past H and of the other calls. The results that the promises name end in `drop H` or `drop n` of what was lent (stack/placed, packing/doneCorners,
+-- book/doneRead, ..).
+-- Assumes nothing.
+use mathlib.Core.Path.{_≡_, refl, sym, ap, _∙_}
+use mathlib.Core.Logic.{_⊎_, inl, inr, ⊎-elim, _≢_}
+use mathlib.Core.Bool.{Bool, true, false}
+use mathlib.Core.List.{List, [], _∷_, _++_}
+use Prim.Native.Nat.{ℕ, zero, suc, _+_, _-_, _*_, _≤_, _<_}
+use native.Mathlib.Omega.{arith}
+use lib.Dec.{ltb}
+use lib.ListN.{length, getD, set, drop, replicate}
+use lib.Seq.{getD-set-other}
+use Rattle.lists.specs.Pick.{pick}
+use Rattle.lists.specs.Lowest.{lowest, lowestFrom}
+use Rattle.lists.specs.Answering.{firstOf}
+use Rattle.lists.specs.Refusals.{Line, First}
+use Rattle.words.specs.declared.Answer.{Answer}
+use Rattle.words.specs.Answers.{refused, done, mark}
+use Rattle.wire.specs.Wire.{Clean}
+use Rattle.table.specs.Table.{Sound, greatestOf, shortest, longest, rows, height, widths}
+use Rattle.table.specs.Verdict.{Validates, findings, verdict}
+use Rattle.table.specs.Laws.{passes-sound}
+use Rattle.order.specs.Order.{orderBelow, order}
+use Rattle.order.specs.Listed.{order-length, order-probe}
+use Rattle.stack.specs.Stack.{raised, bins}
+use Rattle.stack.specs.FirstFit.{Outcome, outcome, marked, binOf, startIn, fitted, planLines, planFindings, refusedPlan, placed, planned}
+use Rattle.packing.specs.Plan.{Plans}
+use Rattle.packing.specs.Checks.{planned-meets}
+use Rattle.packing.proofs.Promises.{plan-unique}
+
+-- of the empty table, with whatever columns are lent
+pub record EmptyTable : Type 0 where
+  pub sound : Sound [] []
+  pub rows : rows [] ≡ 0
+  pub clean : Clean [] [] []
+  pub plans : (ss fs : List ℕ) (o : Outcome) → Plans [] [] ss fs o → o ≡ outcome done ss fs
+
+pub empty-table : EmptyTable
+unfolding lowest lowestFrom firstOf greatestOf shortest longest rows findings verdict orderBelow order fitted planFindings placed planned
+empty-table = record {
+  sound = passes-sound [] [] refl;
+  rows = refl;
+  clean = λ t i j h. absurd (omega arith);
+  plans = λ ss fs o p. plan-unique [] [] ss fs o (planned [] [] ss fs) p (planned-meets [] [] ss fs);
+}
+
+-- a refusal, or what comes after the lines
+refused-or : {O : Type 0} (ls : List Line) (refuse : ℕ → ℕ → O) (Rest : O → Type 0) (o : O) → First ls refuse Rest o → ((k : ℕ) × (i : ℕ) × (o ≡ refuse k i)) ⊎ Rest o
+unfolding First
+refused-or [] refuse Rest o p = inr p
+refused-or (l ∷ ls) refuse Rest o (inl (i, at, e)) = inl (l .number, i, e)
+refused-or (l ∷ ls) refuse Rest o (inr (s, p)) = refused-or ls refuse Rest o p
+
+-- places of the column that lie past every probe of a list of probes
+abbrev Before : ℕ → List ℕ → Type 0
+Before n is = (k : ℕ) → k < length is → getD is k 0 < n
+
+marked-past : (n j : ℕ) → n ≤ j → (is ss : List ℕ) → Before n is → getD (marked is ss) j 0 ≡ getD ss j 0
+unfolding marked
+marked-past n j h [] ss b = refl
+marked-past n j h (i ∷ is) ss b =
+    marked-past n j h is (set ss i mark) (λ k l. b (suc k) (omega arith)) ∙ getD-set-other ss i j mark 0 (λ e. absurd (omega (arith, b 0 (omega arith))))
+
+module _ (Ts qs : List ℕ) (n j : ℕ) (past : n ≤ j) where
+  fitted-past : (is ss fs : List ℕ) → Before n is → getD (fitted Ts qs is ss fs .starts) j 0 ≡ getD ss j 0
+  unfolding fitted
+  fitted-past [] ss fs b = refl
+  fitted-past (i ∷ is) ss fs b =
+      by (ltb (binOf Ts qs i fs) (bins fs (height Ts (getD Ts i 0))))
+      (fitted-past is (set ss i (startIn Ts qs i fs (binOf Ts qs i fs)))
+      (raised fs (binOf Ts qs i fs * height Ts (getD Ts i 0)) (height Ts (getD Ts i 0)) (getD qs i 0)) (λ k l. b (suc k) (omega arith))
+      ∙ getD-set-other ss i j _ 0 (λ e. absurd (omega (arith, b 0 (omega arith)))))
+    where
+      by : (t : Bool) {o : Outcome} → getD (o .starts) j 0 ≡ getD ss j 0 → getD (pick t o (outcome (refused 8 i) (marked (i ∷ is) ss) fs) .starts) j 0 ≡ getD ss j 0
+      by true e = e
+      by false e = marked-past n j past (i ∷ is) ss b
+
+-- of every answer
+pub plan-past : (Ts ps ss fs : List ℕ) (o : Outcome) → Plans Ts ps ss fs o → (j : ℕ) → length Ts ≤ j → getD (o .starts) j 0 ≡ getD ss j 0
+unfolding Plans placed
+plan-past Ts ps ss fs o p j h =
+    ⊎-elim (λ (k, i, e). ap (λ (r : Outcome). getD (r .starts) j 0) e)
+    (λ e. ap (λ (r : Outcome). getD (r .starts) j 0) e
+    ∙ fitted-past Ts (widths 0 ps) (length Ts) j h (order Ts ps) ss (replicate (rows Ts) 0) (λ k l. order-probe Ts ps k (omega (arith, order-length Ts ps))))
+    (refused-or (planLines Ts ps ss fs) (refusedPlan Ts ps ss fs) (λ r. r ≡ placed Ts ps ss fs) o p)
