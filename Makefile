@@ -6,7 +6,7 @@
 # make bench    measures the verified calls beside plain Rust
 # make stack    measures the stack that calls and programs take
 SHELL = /bin/sh
-.PHONY: plan build test test-rest check fmt bench stack
+.PHONY: plan build test test-rest check fmt bench edits sizes stack
 
 plan: build
 	@bin/plan <examples/pasteuriser.book
@@ -36,3 +36,13 @@ bench:
 
 stack:
 	@tests/masters/stack.sh
+
+# docs/EDITS.md, from what the last run of the gate said of each edit
+edits:
+	@{ printf '# Must-fail edits\n\nEach edit keeps the code'"'"'s shape, and the prover refuses it. The witness is an input, the right answer and the wrong one; the place is where the prover finds the first fact that fails.\n'; \
+	printf 'The gate holds this page against its own run; `make edits` writes it.\n\n| edit | witness | refused at |\n|---|---|---|\n'; \
+	awk -f tests/gate/edits.awk target/ci.log | LC_ALL=C sort; } >docs/EDITS.md
+
+# docs/SIZES.md, from the sources and the last run of the gate
+sizes:
+	@sh tests/sizes >target/sizes && cp target/sizes docs/SIZES.md
