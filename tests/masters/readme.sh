@@ -11,7 +11,7 @@ stop() { cat "$room/said"; echo "FAILED: $what ($*)"; exit 1; }
 # The one block of a language in the section: fails unless it is there once.
 block() { # LANGUAGE
     awk -v fence="\`\`\`$1" '
-        /^## / { here = $0 == "## From a master'"'"'s firmware" }
+        /^## / { here = $0 == "## For the firmware programmer" }
         here && inside && /^```$/ { inside = 0; next }
         inside { print }
         here && $0 == fence { inside = 1; found++ }
