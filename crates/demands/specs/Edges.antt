@@ -13,6 +13,7 @@ use native.Mathlib.Omega.{arith}
 use lib.Dec.{ltb}
 use lib.ListN.{length, getD, set, drop, replicate}
 use lib.Seq.{getD-set-other}
+use borrow.Author.Tests.{le-ltb}
 use Rattle.lists.specs.Pick.{pick}
 use Rattle.lists.specs.Lowest.{lowest, lowestFrom}
 use Rattle.lists.specs.Answering.{firstOf}
@@ -38,13 +39,17 @@ pub record EmptyTable : Type 0 where
   pub clean : Clean [] [] []
   pub plans : (ss fs : List ℕ) (o : Outcome) → Plans [] [] ss fs o → o ≡ outcome done ss fs
 
+empty-planned : (ss fs : List ℕ) → planned [] [] ss fs ≡ outcome done ss fs
+unfolding lowest lowestFrom firstOf greatestOf shortest longest rows findings orderBelow order fitted planFindings placed planned
+empty-planned ss fs = rw (le-ltb (length ss) 0 (omega arith), le-ltb (length fs) 0 (omega arith)) refl
+
 pub empty-table : EmptyTable
-unfolding lowest lowestFrom firstOf greatestOf shortest longest rows findings verdict orderBelow order fitted planFindings placed planned
+unfolding lowest lowestFrom firstOf greatestOf shortest longest rows findings verdict
 empty-table = record {
   sound = passes-sound [] [] refl;
   rows = refl;
   clean = λ t i j h. absurd (omega arith);
-  plans = λ ss fs o p. plan-unique [] [] ss fs o (planned [] [] ss fs) p (planned-meets [] [] ss fs);
+  plans = λ ss fs o p. plan-unique [] [] ss fs o (planned [] [] ss fs) p (planned-meets [] [] ss fs) ∙ empty-planned ss fs;
 }
 
 -- a refusal, or what comes after the lines
@@ -69,14 +74,14 @@ module _ (Ts qs : List ℕ) (n j : ℕ) (past : n ≤ j) where
   unfolding fitted
   fitted-past [] ss fs b = refl
   fitted-past (i ∷ is) ss fs b =
-      by (ltb (binOf Ts qs i fs) (bins fs (height Ts (getD Ts i 0))))
+      by (ltb (binOf Ts qs i fs) (bins fs (height Ts (getD Ts i 0)))) _
       (fitted-past is (set ss i (startIn Ts qs i fs (binOf Ts qs i fs)))
       (raised fs (binOf Ts qs i fs * height Ts (getD Ts i 0)) (height Ts (getD Ts i 0)) (getD qs i 0)) (λ k l. b (suc k) (omega arith))
       ∙ getD-set-other ss i j _ 0 (λ e. absurd (omega (arith, b 0 (omega arith)))))
     where
-      by : (t : Bool) {o : Outcome} → getD (o .starts) j 0 ≡ getD ss j 0 → getD (pick t o (outcome (refused 8 i) (marked (i ∷ is) ss) fs) .starts) j 0 ≡ getD ss j 0
-      by true e = e
-      by false e = marked-past n j past (i ∷ is) ss b
+      by : (t : Bool) (o : Outcome) → getD (o .starts) j 0 ≡ getD ss j 0 → getD (pick t o (outcome (refused 8 i) (marked (i ∷ is) ss) fs) .starts) j 0 ≡ getD ss j 0
+      by true o e = e
+      by false o e = marked-past n j past (i ∷ is) ss b
 
 -- of every answer
 pub plan-past : (Ts ps ss fs : List ℕ) (o : Outcome) → Plans Ts ps ss fs o → (j : ℕ) → length Ts ≤ j → getD (o .starts) j 0 ≡ getD ss j 0
