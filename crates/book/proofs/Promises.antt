@@ -14,6 +14,7 @@ use Rattle.sheets.specs.Bytes.{AreBytes, AreWords}
 use Rattle.sheets.specs.Layout.{Layout, firstEdition, blockBytes, mostN, blocksOf}
 use Rattle.book.specs.Reading.{Columns, columns, blockLines, blocksIn, ShortColumn, readLines, refusedRead, doneRead, Reads, readOf}
 use Rattle.book.specs.Writing.{Pages, pages, bookOf, writeLines, refusedWrite, doneWrite, Writes, writeOf}
+use Rattle.loading.specs.BlocksLaws.{block-numbers}
 use Rattle.book.specs.ReadLaws.{read-meets}
 use Rattle.book.specs.WriteLaws.{write-meets}
 use Rattle.book.specs.RoundTrips.{read-then-write, write-then-read, form-only}
@@ -24,20 +25,11 @@ module _ (L : Layout) (bs Ts ps ss : List ℕ) where
   unfolding Reads
   read-unique = first-unique (readLines L bs Ts ps ss) (refusedRead L bs Ts ps ss) (λ r. r ≡ doneRead L bs Ts ps ss) (λ a b p q. p ∙ sym q)
 
-  block-numbers : (x b k : ℕ) → In x (numbers (blockLines L bs b k ++ (whole 24 (ShortColumn L bs Ts ps ss) ∷ []))) → In x (21 ∷ 22 ∷ 23 ∷ 24 ∷ [])
-  unfolding In blockLines
-  block-numbers x b zero (inl e) = inr (inr (inr (inl e)))
-  block-numbers x b zero (inr h) = absurd h
-  block-numbers x b (suc k) (inl e) = inl e
-  block-numbers x b (suc k) (inr (inl e)) = inr (inl e)
-  block-numbers x b (suc k) (inr (inr (inl e))) = inr (inr (inl e))
-  block-numbers x b (suc k) (inr (inr (inr h))) = block-numbers x (suc b) k h
-
   -- the numbers that reading can give
   pub read-numbers : (o : Columns) → Reads L bs Ts ps ss o → In (o .answer .number) (0 ∷ 20 ∷ 21 ∷ 22 ∷ 23 ∷ 24 ∷ [])
   unfolding Reads In doneRead
   read-numbers o p =
-      ⊎-elim (⊎-elim (λ e. inr (inl e)) (λ h. inr (inr (block-numbers (o .answer .number) 0 (blocksIn bs) h)))) (λ e. inl (ap (λ (c : Columns). c .answer .number) e))
+      ⊎-elim (⊎-elim (λ e. inr (inl e)) (λ h. inr (inr (block-numbers L bs (whole 24 (ShortColumn L bs Ts ps ss) ∷ []) (o .answer .number) 0 (blocksIn bs) h)))) (λ e. inl (ap (λ (c : Columns). c .answer .number) e))
       (first-numbers (λ (c : Columns). c .answer .number) (readLines L bs Ts ps ss) (refusedRead L bs Ts ps ss) (λ r. r ≡ doneRead L bs Ts ps ss) (λ k i. refl) o p)
 
 module _ (L : Layout) (Ts ps ss out : List ℕ) where

@@ -4,12 +4,13 @@
 --     judged-right, right-judged   none is bad exactly where every block's verdict is 0
 --     judged-n              then the answer is n
 --     RightSize L bs        what 20 leaves of the size
+--     block-numbers         the numbers of the lines
 --     blocks-find           the tests of the blocks find what their lines ask for
 -- Assumes nothing.
 use mathlib.Core.Path.{_≡_, refl, sym, ap, _∙_}
 use mathlib.Core.Logic.{inl, inr}
 use mathlib.Core.Bool.{Bool, true, false}
-use mathlib.Core.List.{List, _∷_}
+use mathlib.Core.List.{List, [], _∷_, _++_}
 use Prim.Native.Nat.{ℕ, zero, suc, _+_, _-_, _*_, _%_, _≤_, _<_}
 use native.Mathlib.Nat.{add-zero, zero-add, sub-zero}
 use native.Mathlib.Numerals.{add-one}
@@ -17,8 +18,9 @@ use native.Mathlib.Decide.{decLt, ℕ-discrete}
 use native.Mathlib.Omega.{arith}
 use lib.ListN.{length}
 use borrow.Author.Tests.{lt-ltb, le-ltb}
-use Rattle.lists.specs.Pick.{pick, Tells}
+use Rattle.lists.specs.Pick.{pick, Tells, In}
 use Rattle.lists.specs.Telling.{tells-either, tells-not, tells-lt, tells-eq, tells-false}
+use Rattle.lists.specs.Refusals.{Line, numbers}
 use Rattle.lists.specs.Answering.{Found, Finds, AllFind, firstOf}
 use Rattle.words.specs.declared.Answer.{Answer}
 use Rattle.words.specs.Answers.{refused}
@@ -228,3 +230,12 @@ blocks-find L bs b (suc k) = (
     (finds-block 23 b _ _ (used-unused-tells L (nOf bs) (blocksIn bs) b (blockAt b bs)), blocks-find L bs (suc b) k),
   ),
 )
+
+-- the numbers of the blocks' lines, and of those that follow them
+pub block-numbers : (L : Layout) (bs : List ℕ) (ms : List Line) (x b k : ℕ) → In x (numbers (blockLines L bs b k ++ ms)) → In x (21 ∷ 22 ∷ 23 ∷ numbers ms)
+unfolding In blockLines
+block-numbers L bs ms x b zero h = inr (inr (inr h))
+block-numbers L bs ms x b (suc k) (inl e) = inl e
+block-numbers L bs ms x b (suc k) (inr (inl e)) = inr (inl e)
+block-numbers L bs ms x b (suc k) (inr (inr (inl e))) = inr (inr (inl e))
+block-numbers L bs ms x b (suc k) (inr (inr (inr h))) = block-numbers L bs ms x (suc b) k h

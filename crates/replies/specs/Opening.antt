@@ -7,7 +7,7 @@
 -- Assumes nothing.
 use mathlib.Core.Path.{_≡_, refl, sym, ap, _∙_}
 use mathlib.Core.Logic.{_⊎_, inl, inr, ⊎-elim}
-use mathlib.Core.List.{List, [], _∷_, _++_}
+use mathlib.Core.List.{List, [], _∷_, _++_, append-nil}
 use Prim.Native.Nat.{ℕ, zero, suc, _/_, _%_, _≤_, _<_}
 use native.Mathlib.Decide.{decLe}
 use native.Mathlib.Omega.{arith}
@@ -19,24 +19,16 @@ use Rattle.words.specs.declared.Answer.{Answer}
 use Rattle.words.specs.Answers.{refused}
 use Rattle.sheets.specs.Layout.{firstEdition, blockBytes, mostN}
 use Rattle.book.specs.Reading.{BadSize, blocksIn, nOf, blockLines, column, Columns, ShortColumn, refusedRead, doneRead, Reads}
-use Rattle.loading.specs.BlocksLaws.{RightSize, right-size}
+use Rattle.loading.specs.BlocksLaws.{RightSize, right-size, block-numbers}
 use Rattle.loading.specs.Loading.{length-column}
 use Rattle.replies.specs.Carrying.{Refused, first-split, first-carry}
 use Rattle.replies.specs.Replies.{bookLines, periodsIn, lengthsIn, startsIn}
-
-block-numbers : (bs : List ℕ) (x b k : ℕ) → In x (numbers (blockLines firstEdition bs b k)) → In x (21 ∷ 22 ∷ 23 ∷ [])
-unfolding In blockLines
-block-numbers bs x b zero h = absurd h
-block-numbers bs x b (suc k) (inl e) = inl e
-block-numbers bs x b (suc k) (inr (inl e)) = inr (inl e)
-block-numbers bs x b (suc k) (inr (inr (inl e))) = inr (inr (inl e))
-block-numbers bs x b (suc k) (inr (inr (inr h))) = block-numbers bs x (suc b) k h
 
 module _ (bs : List ℕ) where
   pub book-numbers : (x : ℕ) → In x (numbers (bookLines bs)) → In x (20 ∷ 21 ∷ 22 ∷ 23 ∷ [])
   unfolding In
   book-numbers x (inl e) = inl e
-  book-numbers x (inr h) = inr (block-numbers bs x 0 (blocksIn bs) h)
+  book-numbers x (inr h) = inr (block-numbers firstEdition bs [] x 0 (blocksIn bs) (rw (append-nil (blockLines firstEdition bs 0 (blocksIn bs))) h))
 
   first-block : RightSize firstEdition bs → (k : ℕ) → blocksIn bs ≡ k → Silents (blockLines firstEdition bs 0 k) → nOf bs ≤ mostN
   unfolding Silents blockLines blocksIn

@@ -12,6 +12,7 @@ use native.Mathlib.Nat.{zero-add}
 use native.Mathlib.Omega.{arith}
 use lib.ListN.{length, drop, set, length-set, length-append}
 use lib.Seq.{sets, sets-eq}
+use Rattle.sheets.specs.Runs.{sets-on}
 
 pub record Put (out : List ℕ) (at : ℕ) (text : List ℕ) (to : ℕ) (new : List ℕ) : Type 0 where
   pub bytes : new ≡ sets out at text
@@ -20,12 +21,6 @@ pub record Put (out : List ℕ) (at : ℕ) (text : List ℕ) (to : ℕ) (new : L
 length-sets : (l : List ℕ) (i : ℕ) (xs : List ℕ) → length (sets l i xs) ≡ length l
 length-sets l i [] = refl
 length-sets l i (x ∷ xs) = length-sets (set l i x) (suc i) xs ∙ length-set l i x
-
-sets-on : (l : List ℕ) (i j : ℕ) (a b : List ℕ) → j ≡ i + length a → sets (sets l i a) j b ≡ sets l i (a ++ b)
-sets-on l i j [] b e =
-    let z : j ≡ i = omega arith in
-    rw z
-sets-on l i j (x ∷ a) b e = sets-on (set l i x) (suc i) j a b (omega arith)
 
 pub put-length : {out : List ℕ} {at : ℕ} {text : List ℕ} {to : ℕ} {new : List ℕ} → Put out at text to new → length new ≡ length out
 put-length {out = out} {at = at} {text = text} p = rw (p .bytes) (length-sets out at text)
