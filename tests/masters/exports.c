@@ -251,14 +251,16 @@ static void damage(size_t n)
     uint8_t book[LARGEST + BLOCK], changed[LARGEST];
     memset(book, 0, sizeof book);
     size_t size = row_book(n, book);
-    for (size_t at = 0; at < size; at++)
+    for (size_t at = 0; at < size; at++) {
+        int first = n > 2 && at % 5 != 0 ? HOLDER : CHECK; /* many pairs take long to walk */
         for (int step = 1; step < 256; step += 127) {
             memcpy(changed, book, size);
             changed[at] = (uint8_t)(changed[at] + step);
-            ask_some(CHECK, NEXT_START, changed, size, at);
+            ask_some(first, NEXT_START, changed, size, at);
             mend(changed, size);
-            ask_some(CHECK, NEXT_START, changed, size, at);
+            ask_some(first, NEXT_START, changed, size, at);
         }
+    }
     for (size_t cut = 0; cut < size; cut++)
         ask_some(CHECK, NEXT_START, book, cut, 0);
     for (size_t more = 1; more <= BLOCK; more++)
