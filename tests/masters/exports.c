@@ -1,8 +1,9 @@
 /*
  * The three exports for masters, called from C: every number, all 20 bytes, buffers of exactly their size.
  *
- * The archive itself is not watched by the sanitizers, so beside heap blocks each call is made on memory between two
- * pages that may not be touched: a byte read or written outside a slice ends the run.
+ * The archive itself is not watched by the sanitizers. So slices lie not only on the heap but also right before and right
+ * behind a page that may not be touched: a byte read or written outside a slice then ends the run. Questions that are few
+ * are asked in every place, those that are many in one place each, in turn.
  */
 #define _DEFAULT_SOURCE
 #include <stdio.h>
