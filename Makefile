@@ -31,7 +31,8 @@ fmt:
 	@rt fmt
 
 bench:
-	@rt staticlib trial >/dev/null
+	@sh tests/archive trial
+	@sh tests/archive masters
 	@cargo run --offline --locked --quiet --release --manifest-path tests/reference/compare/Cargo.toml --bin bench
 
 stack:

@@ -39,7 +39,7 @@ done
 echo "ok: $what"
 
 # shellcheck disable=SC2086
-gcc -std=c99 $strict -g -O1 -fsanitize=address,undefined -fno-sanitize-recover=all tests/masters/exports.c target/staticlib/libmasters.a -o "$room/exports" >"$room/said" 2>&1 ||
+gcc -std=c99 $strict -g -O2 -fsanitize=address,undefined -fno-sanitize-recover=all tests/masters/exports.c target/staticlib/libmasters.a -o "$room/exports" >"$room/said" 2>&1 ||
     stop "$calls (the test cannot be built)"
 "$room/exports" >"$room/said" 2>&1 || stop "$calls"
 cat "$room/said"
