@@ -23,13 +23,14 @@ use Rattle.book.specs.Reading.{nOf, column, Columns, Reads}
 use Rattle.loading.specs.Loading.{length-column}
 use Rattle.checker.specs.Check.{Judged, Checks}
 use Rattle.timetable.specs.Timetable.{askLines, HeldBy, Holder, NextStart, NextFrom}
+use Rattle.telling.specs.Shown.{answerBytes, shown}
 use Rattle.replies.specs.declared.Question.{Question}
 use Rattle.replies.specs.declared.Question.the-variants.{IsClean, HolderAt, StartFrom}
 use Rattle.replies.specs.Carrying.{Refused, first-split}
 use Rattle.replies.specs.Replies.{bookLines, periodsIn, lengthsIn, startsIn, Replies, Answers}
 use Rattle.replies.specs.Opening.{book-numbers, silent-few, Opened, reads-refused, reads-opened}
 use Rattle.replies.specs.Asking.{answers-unique}
-use Rattle.masters.specs.Exports.{answerBytes, shown, Given, given, exportLines, refusedExport, ToldOf, Exports, exportOf}
+use Rattle.masters.specs.Exports.{Given, given, exportLines, refusedExport, ToldOf, Exports, exportOf}
 use Rattle.masters.specs.Laws.{exports-short, export-meets}
 use Rattle.masters.specs.Numbers.{list-numbers}
 

@@ -1,8 +1,6 @@
 -- THE EXPORTS. Document 01, "Numbers the master shows": "With fewer than 20 the call returns 7 before all else and writes nothing; bytes past the twentieth stay. Otherwise it judges
 -- the book by the reading rules, then the list by the order above, returns the number, and writes number, index and second index in 4 bytes each and the tick in 8, least byte first,
 -- refusals included."
---     answerBytes               20
---     shown a                   the 20 bytes of an answer
 --     Given                     the number that comes back, and the lent bytes afterwards
 --     exportOf q bs out         what an export gives, computed
 --     Exports q bs out o        the promise of an export that asks question q of the book bs and is lent the bytes out   (believe this)
@@ -16,15 +14,9 @@ use lib.ListN.{length, drop}
 use Rattle.lists.specs.Pick.{pick}
 use Rattle.lists.specs.Refusals.{Line, whole, First}
 use Rattle.words.specs.declared.Answer.{Answer}
-use Rattle.sheets.specs.Bytes.{bytes}
+use Rattle.telling.specs.Shown.{answerBytes, shown}
 use Rattle.replies.specs.declared.Question.{Question}
 use Rattle.replies.specs.Replies.{Answers, replyOf}
-
-abbrev pub answerBytes : ℕ
-answerBytes = 20
-
-unfoldable pub shown : Answer → List ℕ
-shown a = bytes 4 (a .number) ++ (bytes 4 (a .index) ++ (bytes 4 (a .second) ++ bytes 8 (a .tick)))
 
 pub record Given : Type 0 where
   pub number : ℕ

@@ -26,7 +26,8 @@ use Rattle.timetable.specs.Timetable.{askFindings, phase, holdsTest, holderOf, 
 use Rattle.replies.specs.declared.Question.{Question}
 use Rattle.replies.specs.declared.Question.the-variants.{IsClean, HolderAt, StartFrom}
 use Rattle.replies.specs.Replies.{repliesOf, readIn, replyOf}
-use Rattle.masters.specs.Exports.{shown, Given, given, Exports, exportOf}
+use Rattle.telling.specs.Shown.{shown}
+use Rattle.masters.specs.Exports.{Given, given, Exports, exportOf}
 use Rattle.masters.specs.Laws.{export-meets}
 use Rattle.masters.proofs.Promises.{export-unique}
 use Rattle.shut_out.specs.Claims.{Claim, claim, Each, Settled, sameList, same-list-tells, all-settled}

@@ -5,7 +5,7 @@ use Rattle.masters.proofs.line_check.Statement.{statement}
 use Rattle.masters.proofs.line_check.Tie as tie
 use Rattle.masters.proofs.line_check.Reads as reads
 use Rattle.masters.proofs.line_check.Lts as lts
-use Rattle.masters.proofs.tell.Reads as tell-reads
+use Rattle.telling.proofs.tell.Reads as tell-reads
 use Rattle.replies.proofs.reply.Reads as reply-reads
 
 -- src/lib.rt:47:9

@@ -5,7 +5,7 @@ use Rattle.masters.proofs.line_holder.Statement.{statement}
 use Rattle.masters.proofs.line_holder.Tie as tie
 use Rattle.masters.proofs.line_holder.Reads as reads
 use Rattle.masters.proofs.line_holder.Lts as lts
-use Rattle.masters.proofs.tell.Reads as tell-reads
+use Rattle.telling.proofs.tell.Reads as tell-reads
 use Rattle.replies.proofs.reply.Reads as reply-reads
 
 -- src/lib.rt:58:9

@@ -5,7 +5,7 @@ use Rattle.masters.proofs.line_next_start.Statement.{statement}
 use Rattle.masters.proofs.line_next_start.Tie as tie
 use Rattle.masters.proofs.line_next_start.Reads as reads
 use Rattle.masters.proofs.line_next_start.Lts as lts
-use Rattle.masters.proofs.tell.Reads as tell-reads
+use Rattle.telling.proofs.tell.Reads as tell-reads
 use Rattle.replies.proofs.reply.Reads as reply-reads
 
 -- src/lib.rt:69:9

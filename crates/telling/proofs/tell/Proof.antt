@@ -1,10 +1,10 @@
 use mathlib.Core.Path.{_≡_, refl}
 use borrow.Author.Needs.{needs}
-use Rattle.masters.specs.Laws.{told}
-use Rattle.masters.proofs.tell.Statement.{statement}
-use Rattle.masters.proofs.tell.Tie as tie
-use Rattle.masters.proofs.tell.Reads as reads
-use Rattle.masters.proofs.tell.Lts as lts
+use Rattle.telling.specs.Laws.{told}
+use Rattle.telling.proofs.tell.Statement.{statement}
+use Rattle.telling.proofs.tell.Tie as tie
+use Rattle.telling.proofs.tell.Reads as reads
+use Rattle.telling.proofs.tell.Lts as lts
 use Rattle.records.proofs.put4.Reads as put4-reads
 
 -- src/lib.rt:31:15
