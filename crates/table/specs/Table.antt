@@ -5,7 +5,7 @@
 --     rows Ts           H = M/w, "the number of rows"; 0 for the empty table
 --     height Ts T       h = M/T, "the height of a probe" of period T
 --     widths g ps       the ticks that each read takes where the wire needs g ticks to be free again; in the base g is 0
---     lines D Ts ps     the lines 1 to 6 of 01's table, in order, each with its exact condition; D says that the call's columns differ in length
+--     lines Ts ps D     the lines 1 to 6 of 01's table, in order, each with its exact condition; D says that the call's columns differ in length
 --     Sound Ts ps       "A table is sound when none of 1 to 6 applies."                                 (believe this)
 --     lateLine Ts ss    line 9: "a start is T or more"
 --     Below Ts ss       every start lies below its period: 9 does not apply

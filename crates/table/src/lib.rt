@@ -98,7 +98,7 @@ pub fn judge(periods: &[u32], lengths: &[u32]) -> Answer
     Answer::done()
 }
 
-// Numbers 1 to 6 and 9 of a list, in order: what every call asks first that takes starts.
+// Numbers 1 to 6 and 9 of a list, in order: what checker and timetable ask first.
 pub fn judge_list(periods: &[u32], lengths: &[u32], starts: &[u32]) -> Answer
     ensures { λ r. ⌜ r ≡ listVerdict (now (periods .entry)) (now (lengths .entry)) (now (starts .entry)) ⌝ }
 {
