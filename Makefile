@@ -6,7 +6,7 @@
 # make bench    measures the verified calls beside plain Rust
 # make stack    measures the stack that calls and programs take
 SHELL = /bin/sh
-.PHONY: plan build test test-rest check fmt bench edits sizes stack
+.PHONY: plan build test test-rest check fmt bench edits sizes names stack
 
 plan: build
 	@bin/plan <examples/pasteuriser.book
@@ -47,3 +47,7 @@ edits:
 # docs/SIZES.md, from the sources and the last run of the gate
 sizes:
 	@sh tests/sizes >target/sizes && cp target/sizes docs/SIZES.md
+
+# docs/NAMES.md: where each name of docs/PROMISES.md stands
+names:
+	@sh tests/gate/where.sh page >target/names && cp target/names docs/NAMES.md
