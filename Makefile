@@ -40,7 +40,7 @@ stack:
 
 # docs/EDITS.md, from what the last run of the gate said of each edit
 edits:
-	@{ printf '# Must-fail edits\n\nEach edit keeps the code'"'"'s shape, and the prover refuses it. The witness is an input, the right answer and the wrong one; the place is where the prover finds the first fact that fails.\n'; \
+	@{ printf '# Must-fail edits\n\nEach edit keeps the code'"'"'s shape, and the prover refuses it. The witness is an input, the right answer and the wrong one; the file, in the edit'"'"'s crate, is where the prover finds the first fact that fails.\n'; \
 	printf 'The gate holds this page against its own run; `make edits` writes it.\n\n| edit | witness | refused at |\n|---|---|---|\n'; \
 	awk -f tests/gate/edits.awk target/ci.log | LC_ALL=C sort; } >docs/EDITS.md
 
