@@ -5,7 +5,7 @@ set -u
 cd "$(dirname "$0")/../.." || exit 2
 room=$(mktemp -d) || exit 2
 trap 'rm -rf "$room"' EXIT
-what="masters: the stack of calls and programs is what docs/FIGURES.md and line.h say"
+what="masters: no export takes more than LINE_STACK_BYTES, each call is within 256 bytes of what docs/FIGURES.md and line.h say; the programs run in 64 KiB"
 stop() { cat "$room/said"; echo "FAILED: $what ($*)"; exit 1; }
 most=64 # KiB in which each program must run
 
