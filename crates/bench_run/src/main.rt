@@ -51,7 +51,7 @@ fn validated(periods: &[u32], lengths: &[u32]) {
 }
 
 fn planned(periods: &[u32], lengths: &[u32], starts: &mut [u32], fills: &mut [u32]) {
-    let given = packing::plan(periods, lengths, starts, fills);
+    let given = planning::plan(periods, lengths, starts, fills);
     column(b"plan periods", periods);
     column(b" lengths", lengths);
     told(given);
@@ -69,7 +69,7 @@ fn checked(periods: &[u32], lengths: &[u32], starts: &[u32]) {
 }
 
 fn converted(periods: &[u32], lengths: &[u32], starts: &[u32], xs: &mut [u32], ys: &mut [u32]) {
-    let given = packing::to_corners(periods, lengths, starts, xs, ys);
+    let given = cornering::to_corners(periods, lengths, starts, xs, ys);
     column(b"corners periods", periods);
     column(b" lengths", lengths);
     column(b" starts", starts);

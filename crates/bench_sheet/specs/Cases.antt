@@ -20,12 +20,12 @@ use Rattle.table.specs.Table.{rows, widths}
 use Rattle.table.specs.Verdict.{verdict}
 use Rattle.chain.specs.Flip.{flip}
 use Rattle.stack.specs.FirstFit.{Outcome, outcome, planned}
-use Rattle.checker.specs.Check.{checked}
+use Rattle.meetings.specs.Check.{checked}
 use Rattle.sheets.specs.Bytes.{word}
 use Rattle.sheets.specs.Layout.{firstEdition, sumPlace, sumPlace2}
-use Rattle.book.specs.Writing.{bookOf}
+use Rattle.volumes.specs.Writing.{bookOf}
 use Rattle.text.specs.Text.{letters}
-use Rattle.pages.specs.Printed.{planText}
+use Rattle.paper.specs.Printed.{planText}
 
 pub data Case : Type 0 where
   Flips : List ℕ → ℕ → ℕ → ℕ → Case

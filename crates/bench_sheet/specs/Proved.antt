@@ -24,15 +24,15 @@ use Rattle.order.specs.Order.{before, insert, orderBelow, order}
 use Rattle.stack.specs.Stack.{raised, fits, bins, lowestBin}
 use Rattle.words.specs.Answers.{done, refused, mark}
 use Rattle.stack.specs.FirstFit.{outcome, marked, binOf, startIn, fitted, planFindings, placed, planned}
-use Rattle.checker.specs.Check.{partner, opener, meetingOf, checked}
+use Rattle.meetings.specs.Check.{partner, opener, meetingOf, checked}
 use Rattle.sheets.specs.Bytes.{bytes, value, word, byteSum, placeSum}
 use Rattle.sheets.specs.Layout.{blocksOf, recordsOf}
 use Rattle.sheets.specs.Runs.{runFrom}
-use Rattle.filling.specs.Filling.{recordOf, recordAt, headOf, sumsOf, bodyOf, blockOf}
-use Rattle.book.specs.Writing.{bookOf}
+use Rattle.sheets.specs.Filling.{recordOf, recordAt, headOf, sumsOf, bodyOf, blockOf}
+use Rattle.volumes.specs.Writing.{bookOf}
 use Rattle.text.specs.Text.{letters, digitsThen, decimal, spaced, printedLine}
 use Rattle.lines.specs.Lines.{answerLine, headLine, startText, probeLine, probeLines}
-use Rattle.pages.specs.Printed.{ran, planText}
+use Rattle.paper.specs.Printed.{ran, planText}
 use Rattle.bench_sheet.specs.Cases.{Case, True, AllTrue, cases}
 
 -- a plan's starts stand in it unopened; each is the one that the digits give

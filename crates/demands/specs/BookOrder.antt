@@ -7,7 +7,7 @@ use mathlib.Core.List.{List, [], _∷_, _++_}
 use Prim.Native.Nat.{ℕ, zero, suc}
 use Rattle.lists.specs.Refusals.{whole, numbers}
 use Rattle.sheets.specs.Layout.{firstEdition}
-use Rattle.book.specs.Reading.{blockLines, blocksIn, ShortColumn}
+use Rattle.volumes.specs.Reading.{blockLines, blocksIn, ShortColumn}
 
 unfoldable pub perBlock : ℕ → List ℕ
 perBlock zero = 24 ∷ []

@@ -48,29 +48,29 @@ use Rattle.stack.specs.Eight.{StopsAt}
 use Rattle.stack.specs.Packing.{Packs}
 use Rattle.stack.specs.PackingLaws.{packs-clean}
 use Rattle.stack.specs.Room.{busyTicks, Room}
-use Rattle.packing.specs.Converting.{Corners, corners, cornerLines, doneCorners, ToCorners, cornersOf, Starts, asStarts, startLines, doneStarts, ToStarts, startsOf}
-use Rattle.packing.specs.Plan.{Plans}
-use Rattle.packing.specs.Checks.{corners-meet, starts-meet, planned-meets}
-use Rattle.packing.proofs.Promises.{to-corners-unique, to-corners-numbers, to-starts-unique, to-starts-numbers, plan-unique, plan-numbers, plan-below, plan-clean, plan-room}
-use Rattle.checker.specs.Check.{Judged, Checks, checked}
-use Rattle.checker.proofs.Promises.{check-unique, check-numbers, check-total, check-alone}
-use Rattle.timetable.specs.Timetable.{askLines, HeldBy, Holder, holderAnswer, NextStart, NextFrom, nextAnswer}
-use Rattle.timetable.specs.HolderLaws.{holder-meets}
-use Rattle.timetable.specs.NextLaws.{next-meets}
-use Rattle.timetable.proofs.Promises.{holder-unique, holder-numbers, next-start-unique, next-start-numbers}
+use Rattle.rectangles.specs.Converting.{Corners, corners, cornerLines, doneCorners, ToCorners, cornersOf, Starts, asStarts, startLines, doneStarts, ToStarts, startsOf}
+use Rattle.rectangles.specs.Plan.{Plans}
+use Rattle.rectangles.specs.Checks.{corners-meet, starts-meet, planned-meets}
+use Rattle.rectangles.proofs.Promises.{to-corners-unique, to-corners-numbers, to-starts-unique, to-starts-numbers, plan-unique, plan-numbers, plan-below, plan-clean, plan-room}
+use Rattle.meetings.specs.Check.{Judged, Checks, checked}
+use Rattle.meetings.proofs.Promises.{check-unique, check-numbers, check-total, check-alone}
+use Rattle.hours.specs.Timetable.{askLines, HeldBy, Holder, holderAnswer, NextStart, NextFrom, nextAnswer}
+use Rattle.hours.specs.HolderLaws.{holder-meets}
+use Rattle.hours.specs.NextLaws.{next-meets}
+use Rattle.hours.proofs.Promises.{holder-unique, holder-numbers, next-start-unique, next-start-numbers}
 use Rattle.sheets.specs.Layout.{firstEdition}
-use Rattle.book.specs.Reading.{blocksIn, columns, readLines, doneRead, Reads, readOf}
-use Rattle.book.specs.Writing.{pages, writeLines, doneWrite, Writes, writeOf}
-use Rattle.book.specs.ReadLaws.{read-meets}
-use Rattle.book.specs.WriteLaws.{write-meets}
-use Rattle.book.proofs.Promises.{read-unique, read-numbers, write-unique, write-numbers}
-use Rattle.replies.specs.declared.Question.the-variants.{IsClean, HolderAt, StartFrom}
-use Rattle.masters.specs.Exports.{given, exportLines, ToldOf, Exports, exportOf}
-use Rattle.masters.proofs.Promises.{export-unique, export-total, check-export-numbers, holder-export-numbers, next-start-export-numbers}
+use Rattle.volumes.specs.Reading.{blocksIn, columns, readLines, doneRead, Reads, readOf}
+use Rattle.volumes.specs.Writing.{pages, writeLines, doneWrite, Writes, writeOf}
+use Rattle.volumes.specs.ReadLaws.{read-meets}
+use Rattle.volumes.specs.WriteLaws.{write-meets}
+use Rattle.volumes.proofs.Promises.{read-unique, read-numbers, write-unique, write-numbers}
+use Rattle.questions.specs.declared.Question.the-variants.{IsClean, HolderAt, StartFrom}
+use Rattle.exports.specs.Exports.{given, exportLines, ToldOf, Exports, exportOf}
+use Rattle.exports.proofs.Promises.{export-unique, export-total, check-export-numbers, holder-export-numbers, next-start-export-numbers}
 use Rattle.lines.specs.Laws.{mostCheck}
-use Rattle.pages.specs.Printed.{planPage, checkPage}
-use Rattle.pages.specs.Paper.{mostPlan, paper, paperLines, donePaper, Prints, printOf, PlanPrints, CheckPrints}
-use Rattle.pages.proofs.Promises.{print-unique, print-numbers, print-total}
+use Rattle.paper.specs.Printed.{planPage, checkPage}
+use Rattle.paper.specs.Paper.{mostPlan, paper, paperLines, donePaper, Prints, printOf, PlanPrints, CheckPrints}
+use Rattle.paper.proofs.Promises.{print-unique, print-numbers, print-total}
 use Rattle.demands.specs.Meeting.{Published, clean-published, answer-clean}
 use Rattle.demands.specs.Planning.{plan-fills, plan-follows, plan-ended}
 use Rattle.demands.specs.PlanPasses.{plan-passes}

@@ -28,9 +28,9 @@ use Rattle.order.specs.Listed.{order-length, order-probe}
 use Rattle.stack.specs.Stack.{raise, raised, bins}
 use Rattle.stack.specs.Rows.{length-map}
 use Rattle.stack.specs.FirstFit.{Outcome, outcome, marked, binOf, startIn, fitted, planLines, planFindings, refusedPlan, placed, planned}
-use Rattle.packing.specs.Plan.{Plans}
-use Rattle.packing.specs.Checks.{planned-meets}
-use Rattle.packing.proofs.Promises.{plan-unique}
+use Rattle.rectangles.specs.Plan.{Plans}
+use Rattle.rectangles.specs.Checks.{planned-meets}
+use Rattle.rectangles.proofs.Promises.{plan-unique}
 
 -- of the empty table, with whatever columns are lent
 pub record EmptyTable : Type 0 where

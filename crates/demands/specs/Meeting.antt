@@ -18,9 +18,9 @@ use Rattle.wire.specs.Apartness.{apart-sound, apart-complete, apart-as-printed}
 use Rattle.table.specs.Table.{Sound}
 use Rattle.table.specs.Laws.{Soundness, sound-gives}
 use Rattle.table.specs.Extremes.{shortest-least}
-use Rattle.checker.specs.Check.{Checks}
-use Rattle.checker.specs.Passing.{Passes}
-use Rattle.checker.proofs.Promises.{check-sound, check-complete}
+use Rattle.meetings.specs.Check.{Checks}
+use Rattle.meetings.specs.Passing.{Passes}
+use Rattle.meetings.proofs.Promises.{check-sound, check-complete}
 
 module _ (Ts ps ss : List ℕ) where
   abbrev pub Published : Type 0

@@ -31,11 +31,11 @@ use Rattle.order.specs.Order.{before, insert, orderBelow, order}
 use Rattle.stack.specs.Stack.{raised, fits, bins, lowestBin}
 use Rattle.stack.specs.FirstFit.{Outcome, marked, binOf, startIn, fitted, planFindings, placed, planned}
 use Rattle.stack.specs.Room.{busyOf, busyTicks}
-use Rattle.packing.specs.Plan.{Plans}
-use Rattle.packing.specs.Checks.{planned-meets}
-use Rattle.checker.specs.Check.{partner, opener, meetingOf, Checks, checked}
-use Rattle.checker.specs.Passing.{Passes, zero-passes}
-use Rattle.checker.proofs.Promises.{check-total}
+use Rattle.rectangles.specs.Plan.{Plans}
+use Rattle.rectangles.specs.Checks.{planned-meets}
+use Rattle.meetings.specs.Check.{partner, opener, meetingOf, Checks, checked}
+use Rattle.meetings.specs.Passing.{Passes, zero-passes}
+use Rattle.meetings.proofs.Promises.{check-total}
 
 abbrev pub ProbeByProbe : Type 0
 ProbeByProbe = (Ts ps : List ℕ) (a : Answer) → Validates Ts ps a → (k : ℕ) → k < a .index → BadLength Ts ps k → ⊥

@@ -17,12 +17,12 @@ use Rattle.stack.specs.FirstFit.{Outcome, placed}
 use Rattle.stack.specs.Planning.{fit, fit-holds}
 use Rattle.table.specs.Laws.{sound-gives}
 use Rattle.table.specs.Widths.{sound-positive}
-use Rattle.packing.specs.Plan.{Plans}
-use Rattle.packing.specs.Ends.{silent-plan}
-use Rattle.packing.proofs.Promises.{plan-below, plan-clean}
-use Rattle.checker.specs.Check.{Checks}
-use Rattle.checker.specs.Passing.{Passes}
-use Rattle.checker.proofs.Promises.{check-complete}
+use Rattle.rectangles.specs.Plan.{Plans}
+use Rattle.rectangles.specs.Ends.{silent-plan}
+use Rattle.rectangles.proofs.Promises.{plan-below, plan-clean}
+use Rattle.meetings.specs.Check.{Checks}
+use Rattle.meetings.specs.Passing.{Passes}
+use Rattle.meetings.proofs.Promises.{check-complete}
 
 module _ (Ts ps ss fs : List ℕ) (o : Outcome) (p : Plans Ts ps ss fs o) (e : o .answer ≡ done) where
   -- the starts that the plan wrote

@@ -21,8 +21,8 @@ use Rattle.stack.specs.Stack.{raised, bins}
 use Rattle.stack.specs.FirstFit.{Outcome, outcome, marked, binOf, startIn, fitted, planLines, refusedPlan, placed}
 use Rattle.stack.specs.Follows.{Follows, follows-fitted, follows-unique}
 use Rattle.stack.specs.Eight.{StopsAt, eight-sound}
-use Rattle.packing.specs.Plan.{Plans}
-use Rattle.packing.specs.Sound.{silents-append}
+use Rattle.rectangles.specs.Plan.{Plans}
+use Rattle.rectangles.specs.Sound.{silents-append}
 
 -- first fit ends with 0, or with 8
 fitted-ended : (Ts qs is ss fs : List ℕ) → (fitted Ts qs is ss fs .answer ≡ done) ⊎ ((i : ℕ) × (fitted Ts qs is ss fs .answer ≡ refused 8 i))

@@ -20,8 +20,8 @@ use Rattle.table.specs.Laws.{sound-gives}
 use Rattle.chain.specs.Corners.{cornerX, cornerY, startOf, OffGrid}
 use Rattle.chain.specs.CornerLaws.{OnGrid, grid-sound, grid-complete, corner-on-grid, start-of-corner, start-below, corner-of-start}
 use Rattle.grid.specs.Grid.{xAt, yAt, startAt, OffGridAt}
-use Rattle.packing.specs.Converting.{Corners, corners, cornerLines, refusedCorners, doneCorners, ToCorners, Starts, asStarts, DifferFour, startLines, refusedStarts, doneStarts, ToStarts}
-use Rattle.packing.specs.Sound.{silents-append}
+use Rattle.rectangles.specs.Converting.{Corners, corners, cornerLines, refusedCorners, doneCorners, ToCorners, Starts, asStarts, DifferFour, startLines, refusedStarts, doneStarts, ToStarts}
+use Rattle.rectangles.specs.Sound.{silents-append}
 
 -- the entries that were written
 taken : (f : ℕ → ℕ) (n : ℕ) (l : List ℕ) → take n (filled f n l) ≡ counted f 0 n

@@ -4,20 +4,20 @@ ghost use mathlib.Core.Bool.{Bool};
 ghost use Prim.Native.Nat.{ℕ, _≤_, _<_};
 ghost use lib.ListN.{length};
 ghost use Rattle.sheets.specs.Layout.{firstEdition, blockBytes, mostN, blocksOf};
-ghost use Rattle.judging.specs.Block.{wrongSum, wrongField, usedUnused, blockVerdict};
-use sheets::Book;
+ghost use Rattle.sheets.specs.Block.{wrongSum, wrongField, usedUnused, blockVerdict};
+use edition::Book;
 
 // 21: a sum is wrong.
 fn wrong_sum(block: &[u8]) -> bool
     requires { ⌜ length (now block) ≡ blockBytes ⌝ }
     ensures { λ r. ⌜ r ≡ wrongSum (now (block .entry)) ⌝ }
 {
-    let sum = sheets::byte_sum(block);
-    if sheets::four(block, Book::SUMS) != sum {
+    let sum = sums::byte_sum(block);
+    if numerals::four(block, Book::SUMS) != sum {
         return true;
     }
-    let sum2 = sheets::place_sum(block);
-    sheets::four(block, Book::SUMS2) != sum2
+    let sum2 = sums::place_sum(block);
+    numerals::four(block, Book::SUMS2) != sum2
 }
 
 // 22: n is above 256, or a field of bytes 0 to 11 is not what the size and n require.
@@ -29,23 +29,23 @@ fn wrong_field(block: &[u8], n: usize, blocks: usize, b: usize) -> bool
     if Book::PROBES < n {
         return true;
     }
-    if sheets::blocks_of(n) != blocks {
+    if counts::blocks_of(n) != blocks {
         return true;
     }
-    if sheets::two(block, 0) != b {
+    if numerals::two(block, 0) != b {
         return true;
     }
-    if sheets::two(block, 2) != blocks {
+    if numerals::two(block, 2) != blocks {
         return true;
     }
-    let records = sheets::records_of(n, b);
-    if sheets::two(block, 4) != records {
+    let records = counts::records_of(n, b);
+    if numerals::two(block, 4) != records {
         return true;
     }
-    if sheets::two(block, 6) != n {
+    if numerals::two(block, 6) != n {
         return true;
     }
-    if sheets::four(block, 8) != 0 {
+    if numerals::four(block, 8) != 0 {
         return true;
     }
     false
@@ -58,8 +58,8 @@ fn used_unused(block: &[u8], n: usize, b: usize) -> bool
     requires { ⌜ b < blocksOf firstEdition n ⌝ }
     ensures { λ r. ⌜ r ≡ usedUnused firstEdition n b (now (block .entry)) ⌝ }
 {
-    let records = sheets::records_of(n, b);
-    !sheets::all_zero(block, Book::HEAD + records * Book::RECORD)
+    let records = counts::records_of(n, b);
+    !sums::all_zero(block, Book::HEAD + records * Book::RECORD)
 }
 
 // The first of 21, 22 and 23 that applies to block b of a book of n probes; 0 where none does.

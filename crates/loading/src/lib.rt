@@ -5,8 +5,8 @@ ghost use mathlib.Core.List.{_++_};
 ghost use Prim.Native.Nat.{ℕ, _*_, _≤_};
 ghost use lib.ListN.{length, drop};
 ghost use Rattle.sheets.specs.Layout.{firstEdition, blockBytes, mostN, blocksOf};
-ghost use Rattle.loading.specs.Blocks.{badSize, judgedBlocks, column};
-use sheets::Book;
+ghost use Rattle.sheets.specs.Blocks.{badSize, judgedBlocks, column};
+use edition::Book;
 use words::Answer;
 
 // 20: size 0, no multiple of a block, or above the most blocks.
@@ -28,7 +28,7 @@ pub fn judge_blocks(book: &[u8]) -> Answer
     requires { ⌜ badSize firstEdition (now book) ≡ false ⌝ }
     ensures { λ r. ⌜ r ≡ judgedBlocks firstEdition (now (book .entry)) ⌝ }
 {
-    let n = sheets::two(book, 6);
+    let n = numerals::two(book, 6);
     let blocks = book.len() / Book::BLOCK;
     let mut b = 0;
     while b < blocks {
@@ -55,7 +55,7 @@ pub fn load(book: &[u8], f: usize, n: usize, into: &mut [u32])
     while i < n {
         let block = i / Book::RECORDS * Book::BLOCK;
         let record = i % Book::RECORDS * Book::RECORD;
-        into[i] = sheets::four(book, block + Book::HEAD + record + f * 4);
+        into[i] = numerals::four(book, block + Book::HEAD + record + f * 4);
         i += 1;
     }
 }

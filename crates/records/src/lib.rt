@@ -6,8 +6,8 @@ ghost use lib.Seq.{sets};
 ghost use Rattle.sheets.specs.Bytes.{bytes};
 ghost use Rattle.sheets.specs.Layout.{firstEdition, blockBytes, headBytes};
 ghost use Rattle.sheets.specs.Runs.{runFrom};
-ghost use Rattle.records.specs.Records.{recordOf, recordAt};
-use sheets::Book;
+ghost use Rattle.sheets.specs.Records.{recordOf, recordAt};
+use edition::Book;
 
 // Two bytes of x at a place, least first.
 pub fn put2(block: &mut [u8], at: usize, x: usize)

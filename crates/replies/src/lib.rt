@@ -1,14 +1,8 @@
 // What the bytes of a book answer to a question: the book is read, then the library's call is made on its columns.
-ghost use Rattle.replies.specs.Replies.{Replies, Answers};
-use sheets::Book;
+ghost use Rattle.questions.specs.Replies.{Replies, Answers};
+use edition::Book;
+use questions::Question;
 use words::Answer;
-
-// What may be asked of a book: whether its list is clean, who holds a tick, the next start from a tick on.
-pub enum Question {
-    IsClean,
-    HolderAt(u64),
-    StartFrom(u64),
-}
 
 // The library's call on three columns.
 fn ask(question: Question, periods: &[u32], lengths: &[u32], starts: &[u32]) -> Answer
@@ -17,10 +11,10 @@ fn ask(question: Question, periods: &[u32], lengths: &[u32], starts: &[u32]) -> 
     match question {
         Question::IsClean => checker::check(periods, lengths, starts),
         Question::HolderAt(tick) => {
-            let held = timetable::holder(periods, lengths, starts, tick);
+            let held = holding::holder(periods, lengths, starts, tick);
             held.answer
         }
-        Question::StartFrom(tick) => timetable::next_start(periods, lengths, starts, tick),
+        Question::StartFrom(tick) => upcoming::next_start(periods, lengths, starts, tick),
     }
 }
 
@@ -31,7 +25,7 @@ pub fn reply(book: &[u8], question: Question) -> Answer
     let mut periods = [0u32; Book::PROBES];
     let mut lengths = [0u32; Book::PROBES];
     let mut starts = [0u32; Book::PROBES];
-    let read = book::read(book, &mut periods, &mut lengths, &mut starts);
+    let read = reading::read(book, &mut periods, &mut lengths, &mut starts);
     let number = read.number;
     if number != 0 {
         return read;

@@ -15,9 +15,9 @@ use Rattle.words.specs.Answers.{refused, done, pair, mark}
 use Rattle.wire.specs.Meeting.{lag, apart, sharedTick, apartAt, tickAt}
 use Rattle.table.specs.Table.{leastOf, greatestOf, shortest, longest, rows, widths}
 use Rattle.table.specs.Verdict.{divides, chained, badPeriod, badLength, unchained, late, findings, listFindings}
-use Rattle.checker.specs.Check.{partner, opener, meetingOf, Checks, checked}
-use Rattle.checker.specs.Laws.{checked-meets}
-use Rattle.checker.proofs.Promises.{check-unique}
+use Rattle.meetings.specs.Check.{partner, opener, meetingOf, Checks, checked}
+use Rattle.meetings.specs.Laws.{checked-meets}
+use Rattle.meetings.proofs.Promises.{check-unique}
 use Rattle.shut_out.specs.Claims.{Claim, claim, Each, Settled, sameAnswer, same-answer-tells, all-settled}
 
 -- periods, lengths and starts

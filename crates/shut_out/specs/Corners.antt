@@ -25,9 +25,9 @@ use Rattle.chain.specs.Flip.Laws.{flip-prefix}
 use Rattle.chain.specs.Ratios.{ratios}
 use Rattle.chain.specs.RatioLaws.{ratios-level, ratios-positive}
 use Rattle.chain.specs.Corners.{cornerX, cornerY}
-use Rattle.packing.specs.Converting.{Corners, corners, cornerFindings, doneCorners, ToCorners, cornersOf}
-use Rattle.packing.specs.Checks.{corners-meet}
-use Rattle.packing.proofs.Promises.{to-corners-unique}
+use Rattle.rectangles.specs.Converting.{Corners, corners, cornerFindings, doneCorners, ToCorners, cornersOf}
+use Rattle.rectangles.specs.Checks.{corners-meet}
+use Rattle.rectangles.proofs.Promises.{to-corners-unique}
 use Rattle.shut_out.specs.Claims.{Each, _also_, differs}
 
 pub record Claim : Type 0 where

@@ -18,18 +18,18 @@ use Rattle.table.specs.Verdict.{divides, chained, badPeriod, badLength, unchain
 use Rattle.sheets.specs.Bytes.{bytes, value, word, byteSum, placeSum, allZero}
 use Rattle.sheets.specs.Layout.{firstEdition, blocksOf, recordsOf}
 use Rattle.sheets.specs.Runs.{runFrom}
-use Rattle.judging.specs.Block.{wrongSum, wrongField, unused, usedUnused}
-use Rattle.filling.specs.Filling.{recordOf, recordAt, headOf, bodyOf, sumsOf, blockOf}
-use Rattle.book.specs.Reading.{badSize, blockAt, blocksIn, nOf, blockFindings, field, column, readFindings, doneRead, readOf}
-use Rattle.checker.specs.Check.{partner, opener, meetingOf, checked}
-use Rattle.timetable.specs.Timetable.{askFindings, phase, holdsTest, holderOf, holderAnswer, candidate, nextOf, nextAnswer}
-use Rattle.replies.specs.declared.Question.{Question}
-use Rattle.replies.specs.declared.Question.the-variants.{IsClean, HolderAt, StartFrom}
-use Rattle.replies.specs.Replies.{repliesOf, readIn, replyOf}
+use Rattle.sheets.specs.Block.{wrongSum, wrongField, unused, usedUnused}
+use Rattle.sheets.specs.Filling.{recordOf, recordAt, headOf, bodyOf, sumsOf, blockOf}
+use Rattle.volumes.specs.Reading.{badSize, blockAt, blocksIn, nOf, blockFindings, field, column, readFindings, doneRead, readOf}
+use Rattle.meetings.specs.Check.{partner, opener, meetingOf, checked}
+use Rattle.hours.specs.Timetable.{askFindings, phase, holdsTest, holderOf, holderAnswer, candidate, nextOf, nextAnswer}
+use Rattle.questions.specs.declared.Question.{Question}
+use Rattle.questions.specs.declared.Question.the-variants.{IsClean, HolderAt, StartFrom}
+use Rattle.questions.specs.Replies.{repliesOf, readIn, replyOf}
 use Rattle.telling.specs.Shown.{shown}
-use Rattle.masters.specs.Exports.{Given, given, Exports, exportOf}
-use Rattle.masters.specs.Laws.{export-meets}
-use Rattle.masters.proofs.Promises.{export-unique}
+use Rattle.exports.specs.Exports.{Given, given, Exports, exportOf}
+use Rattle.exports.specs.Laws.{export-meets}
+use Rattle.exports.proofs.Promises.{export-unique}
 use Rattle.shut_out.specs.Claims.{Claim, claim, Each, Settled, sameList, same-list-tells, all-settled}
 use Rattle.shut_out.specs.Read.{summed, two}
 

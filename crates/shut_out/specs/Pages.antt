@@ -20,17 +20,17 @@ use Rattle.table.specs.Verdict.{divides, chained, badPeriod, badLength, unchain
 use Rattle.sheets.specs.Bytes.{bytes, value, word, byteSum, placeSum, allZero}
 use Rattle.sheets.specs.Layout.{firstEdition, blocksOf, recordsOf}
 use Rattle.sheets.specs.Runs.{runFrom}
-use Rattle.judging.specs.Block.{wrongSum, wrongField, unused, usedUnused}
-use Rattle.filling.specs.Filling.{recordOf, recordAt, headOf, bodyOf, sumsOf, blockOf}
-use Rattle.book.specs.Reading.{badSize, blockAt, blocksIn, nOf, blockFindings, field, column, readFindings, doneRead, readOf}
-use Rattle.checker.specs.Check.{partner, opener, meetingOf, checked}
-use Rattle.replies.specs.Replies.{repliesOf, readIn, replyOf}
+use Rattle.sheets.specs.Block.{wrongSum, wrongField, unused, usedUnused}
+use Rattle.sheets.specs.Filling.{recordOf, recordAt, headOf, bodyOf, sumsOf, blockOf}
+use Rattle.volumes.specs.Reading.{badSize, blockAt, blocksIn, nOf, blockFindings, field, column, readFindings, doneRead, readOf}
+use Rattle.meetings.specs.Check.{partner, opener, meetingOf, checked}
+use Rattle.questions.specs.Replies.{repliesOf, readIn, replyOf}
 use Rattle.text.specs.Text.{letters, digitsThen, decimal, spaced, printedLine}
 use Rattle.lines.specs.Lines.{answerLine, checkLine}
 use Rattle.lines.specs.Laws.{mostCheck}
-use Rattle.pages.specs.Printed.{planPage, checkPage}
-use Rattle.pages.specs.Paper.{mostPlan, Paper, paper, Prints, printOf, PlanPrints, CheckPrints}
-use Rattle.pages.proofs.Promises.{print-unique, print-total}
+use Rattle.paper.specs.Printed.{planPage, checkPage}
+use Rattle.paper.specs.Paper.{mostPlan, Paper, paper, Prints, printOf, PlanPrints, CheckPrints}
+use Rattle.paper.proofs.Promises.{print-unique, print-total}
 use Rattle.shut_out.specs.Claims.{Claim, claim, Each, Settled, sameAnswer, same-answer-tells, sameList, same-list-tells, all-settled}
 use Rattle.shut_out.specs.Read.{summed, two}
 

@@ -25,9 +25,9 @@ use Rattle.order.specs.Order.{before, insert, orderBelow, order}
 use Rattle.stack.specs.Stack.{raised, fits, bins, lowestBin}
 use Rattle.stack.specs.FirstFit.{Outcome, outcome, marked, binOf, startIn, fitted, planFindings, placed, planned}
 use Rattle.stack.specs.Planning.{fit, fit-clean}
-use Rattle.packing.specs.Plan.{Plans}
-use Rattle.packing.specs.Checks.{planned-meets}
-use Rattle.packing.proofs.Promises.{plan-unique}
+use Rattle.rectangles.specs.Plan.{Plans}
+use Rattle.rectangles.specs.Checks.{planned-meets}
+use Rattle.rectangles.proofs.Promises.{plan-unique}
 use Rattle.shut_out.specs.Claims.{Each, _also_, differs}
 use Rattle.shut_out.specs.Starts.{start-x}
 

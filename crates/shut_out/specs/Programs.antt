@@ -27,13 +27,13 @@ use Rattle.table.specs.Widths.{widths-none}
 use Rattle.order.specs.Order.{before, insert, orderBelow, order}
 use Rattle.stack.specs.Stack.{raised, fits, bins, lowestBin}
 use Rattle.stack.specs.FirstFit.{Outcome, marked, binOf, startIn, fitted, planFindings, placed, planned}
-use Rattle.packing.specs.Plan.{Plans}
-use Rattle.packing.specs.Checks.{planned-meets}
+use Rattle.rectangles.specs.Plan.{Plans}
+use Rattle.rectangles.specs.Checks.{planned-meets}
 use Rattle.lists.specs.Standing.{stands}
 use Rattle.lists.specs.Standing.{not-in}
-use Rattle.packing.proofs.Promises.{plan-unique}
-use Rattle.checker.specs.Check.{Judged, Checks}
-use Rattle.checker.proofs.Promises.{check-unique}
+use Rattle.rectangles.proofs.Promises.{plan-unique}
+use Rattle.meetings.specs.Check.{Judged, Checks}
+use Rattle.meetings.proofs.Promises.{check-unique}
 use Rattle.shut_out.specs.Starts.{start-x}
 use Rattle.shut_out.specs.Check.{check-shuts-out}
 

@@ -16,11 +16,11 @@ use Rattle.words.specs.Answers.{refused}
 use Rattle.sheets.specs.Bytes.{bytes, value, word, byteSum, placeSum, allZero}
 use Rattle.sheets.specs.Layout.{firstEdition, blocksOf, recordsOf}
 use Rattle.sheets.specs.Runs.{runFrom}
-use Rattle.judging.specs.Block.{wrongSum, wrongField, unused, usedUnused}
-use Rattle.filling.specs.Filling.{recordOf, recordAt, headOf, bodyOf, sumsOf}
-use Rattle.book.specs.Reading.{badSize, blockAt, blocksIn, nOf, blockFindings, field, column, Columns, columns, readFindings, doneRead, Reads, readOf}
-use Rattle.book.specs.ReadLaws.{read-meets}
-use Rattle.book.proofs.Promises.{read-unique}
+use Rattle.sheets.specs.Block.{wrongSum, wrongField, unused, usedUnused}
+use Rattle.sheets.specs.Filling.{recordOf, recordAt, headOf, bodyOf, sumsOf}
+use Rattle.volumes.specs.Reading.{badSize, blockAt, blocksIn, nOf, blockFindings, field, column, Columns, columns, readFindings, doneRead, Reads, readOf}
+use Rattle.volumes.specs.ReadLaws.{read-meets}
+use Rattle.volumes.proofs.Promises.{read-unique}
 use Rattle.shut_out.specs.Claims.{Claim, claim, Each, Settled, sameAnswer, same-answer-tells, sameList, same-list-tells, all-settled}
 
 -- the bytes, and the lent periods, lengths and starts

@@ -24,9 +24,9 @@ use Rattle.chain.specs.Corners.{cornerY, startOf}
 use Rattle.chain.specs.CornerLaws.{grid-complete, corner-of-start}
 use Rattle.grid.specs.Grid.{offGrid}
 use Rattle.grid.specs.Laws.{off-grid-tells}
-use Rattle.packing.specs.Converting.{Starts, asStarts, startFindings, doneStarts, ToStarts, startsOf}
-use Rattle.packing.specs.Checks.{starts-meet}
-use Rattle.packing.proofs.Promises.{to-starts-unique}
+use Rattle.rectangles.specs.Converting.{Starts, asStarts, startFindings, doneStarts, ToStarts, startsOf}
+use Rattle.rectangles.specs.Checks.{starts-meet}
+use Rattle.rectangles.proofs.Promises.{to-starts-unique}
 use Rattle.shut_out.specs.Claims.{Each, _also_, differs}
 use Rattle.shut_out.specs.Corners.{doubled, ones, doubled-harmonic, slot-no-bin}
 

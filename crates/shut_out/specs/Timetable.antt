@@ -14,10 +14,10 @@ use Rattle.words.specs.Answers.{refused, pair, mark}
 use Rattle.words.specs.Ticks.{lastTick}
 use Rattle.table.specs.Table.{leastOf, greatestOf, shortest, longest, rows, widths}
 use Rattle.table.specs.Verdict.{divides, chained, badPeriod, badLength, unchained, late, findings, listFindings}
-use Rattle.timetable.specs.Timetable.{askFindings, phase, holdsTest, holderOf, Holder, holderAnswer, candidate, nextOf, NextFrom, nextAnswer}
-use Rattle.timetable.specs.HolderLaws.{holder-meets}
-use Rattle.timetable.specs.NextLaws.{next-meets}
-use Rattle.timetable.proofs.Promises.{holder-unique, next-start-unique}
+use Rattle.hours.specs.Timetable.{askFindings, phase, holdsTest, holderOf, Holder, holderAnswer, candidate, nextOf, NextFrom, nextAnswer}
+use Rattle.hours.specs.HolderLaws.{holder-meets}
+use Rattle.hours.specs.NextLaws.{next-meets}
+use Rattle.hours.proofs.Promises.{holder-unique, next-start-unique}
 use Rattle.shut_out.specs.Claims.{Claim, claim, Each, Settled, sameAnswer, same-answer-tells, all-settled}
 
 -- periods, lengths, starts and a tick

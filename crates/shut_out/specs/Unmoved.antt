@@ -18,7 +18,7 @@ use Rattle.table.specs.Verdict.{divides, chained, badPeriod, badLength, unchain
 use Rattle.table.specs.Composing.{listVerdict}
 use Rattle.chain.specs.Corners.{cornerX}
 use Rattle.stack.specs.Packing.{Inside, NoOverlap}
-use Rattle.checker.specs.Passing.{Passes, zero-passes}
+use Rattle.meetings.specs.Passing.{Passes, zero-passes}
 
 abbrev pub Unmoved : Type 0
 Unmoved = (Ts ps ss : List ℕ) → Passes Ts ps ss → (Inside Ts ps ss × NoOverlap Ts ps ss) ↔ Clean Ts ps ss

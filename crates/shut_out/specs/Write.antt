@@ -14,10 +14,10 @@ use Rattle.words.specs.Answers.{refused, done}
 use Rattle.sheets.specs.Bytes.{bytes, byteSum, placeSum}
 use Rattle.sheets.specs.Layout.{firstEdition, blocksOf, recordsOf}
 use Rattle.sheets.specs.Runs.{runFrom}
-use Rattle.filling.specs.Filling.{recordOf, recordAt, headOf, bodyOf, sumsOf, blockOf}
-use Rattle.book.specs.Writing.{bookOf, Pages, pages, writeFindings, doneWrite, Writes, writeOf}
-use Rattle.book.specs.WriteLaws.{write-meets}
-use Rattle.book.proofs.Promises.{write-unique}
+use Rattle.sheets.specs.Filling.{recordOf, recordAt, headOf, bodyOf, sumsOf, blockOf}
+use Rattle.volumes.specs.Writing.{bookOf, Pages, pages, writeFindings, doneWrite, Writes, writeOf}
+use Rattle.volumes.specs.WriteLaws.{write-meets}
+use Rattle.volumes.proofs.Promises.{write-unique}
 use Rattle.shut_out.specs.Claims.{Claim, claim, Each, Settled, sameAnswer, same-answer-tells, sameList, same-list-tells, all-settled}
 use Rattle.shut_out.specs.Read.{summed, two}
 

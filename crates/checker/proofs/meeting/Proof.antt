@@ -6,9 +6,9 @@ use lib.Dec.{ltb}
 use lib.ListN.{length}
 use Rattle.lists.specs.Lowest.{Searching, searching-start, searching-next, searching-found, searching-none}
 use Rattle.table.specs.Laws.{sound-gives}
-use Rattle.checker.specs.Check.{partner, opener}
+use Rattle.meetings.specs.Check.{partner, opener}
 use Rattle.table.specs.Widths.{widths-none}
-use Rattle.checker.specs.Steps.{has-partner, no-partner, meeting-found, meeting-none}
+use Rattle.meetings.specs.Steps.{has-partner, no-partner, meeting-found, meeting-none}
 use borrow.Author.Needs.{needs}
 use Rattle.checker.proofs.meeting.Statement.{statement}
 use Rattle.checker.proofs.meeting.Tie as tie

@@ -8,8 +8,8 @@ use lib.ListN.{length}
 use Rattle.lists.specs.Pick.{both}
 use Rattle.lists.specs.Lowest.{Searching, searching-next, searching-found, searching-none}
 use Rattle.wire.specs.Meeting.{apartAt}
-use Rattle.checker.specs.Check.{partner}
-use Rattle.checker.specs.Steps.{partner-start, above-is}
+use Rattle.meetings.specs.Check.{partner}
+use Rattle.meetings.specs.Steps.{partner-start, above-is}
 use borrow.Author.Needs.{needs}
 use Rattle.checker.proofs.partner.Statement.{statement}
 use Rattle.checker.proofs.partner.Tie as tie

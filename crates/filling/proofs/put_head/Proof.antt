@@ -4,7 +4,7 @@ use Prim.Native.Nat.{suc, _+_}
 use native.Mathlib.Omega.{arith}
 use Rattle.sheets.specs.Bytes.{bytes}
 use Rattle.sheets.specs.Layout.{firstEdition}
-use Rattle.filling.specs.Filling.{headOf}
+use Rattle.sheets.specs.Filling.{headOf}
 use borrow.Author.Needs.{needs}
 use Rattle.filling.proofs.put_head.Statement.{statement}
 use Rattle.filling.proofs.put_head.Tie as tie
@@ -12,8 +12,8 @@ use Rattle.filling.proofs.put_head.Reads as reads
 use Rattle.filling.proofs.put_head.Lts as lts
 use Rattle.records.proofs.put2.Reads as put2-reads
 use Rattle.records.proofs.put4.Reads as put4-reads
-use Rattle.sheets.proofs.blocks_of.Reads as blocks-of-reads
-use Rattle.sheets.proofs.records_of.Reads as records-of-reads
+use Rattle.counts.proofs.blocks_of.Reads as blocks-of-reads
+use Rattle.counts.proofs.records_of.Reads as records-of-reads
 
 blocks-of-requires : tie.Need-blocks-of-requires
 blocks-of-requires c κs = search needs

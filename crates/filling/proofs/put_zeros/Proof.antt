@@ -5,7 +5,7 @@ use native.Mathlib.Omega.{arith}
 use lib.ListN.{length, replicate}
 use lib.Seq.{sets, length-sets}
 use Rattle.sheets.specs.Layout.{sumPlace}
-use Rattle.filling.specs.FillingLaws.{zeros-store}
+use Rattle.sheets.specs.FillingLaws.{zeros-store}
 use borrow.Author.Needs.{needs}
 use Rattle.filling.proofs.put_zeros.Statement.{statement}
 use Rattle.filling.proofs.put_zeros.Tie as tie

@@ -4,15 +4,15 @@ use mathlib.Core.Bool.{Bool, not}
 use Prim.Native.Nat.{_+_, _*_}
 use native.Mathlib.Omega.{arith}
 use Rattle.sheets.specs.Layout.{firstEdition}
-use Rattle.judging.specs.Block.{unused, usedUnused}
+use Rattle.sheets.specs.Block.{unused, usedUnused}
 use Rattle.sheets.specs.LayoutLaws.{records-most}
 use borrow.Author.Needs.{needs}
 use Rattle.judging.proofs.used_unused.Statement.{statement}
 use Rattle.judging.proofs.used_unused.Tie as tie
 use Rattle.judging.proofs.used_unused.Reads as reads
 use Rattle.judging.proofs.used_unused.Lts as lts
-use Rattle.sheets.proofs.all_zero.Reads as all-zero-reads
-use Rattle.sheets.proofs.records_of.Reads as records-of-reads
+use Rattle.sums.proofs.all_zero.Reads as all-zero-reads
+use Rattle.counts.proofs.records_of.Reads as records-of-reads
 
 records-of-requires : tie.Need-records-of-requires
 records-of-requires c κs = search needs

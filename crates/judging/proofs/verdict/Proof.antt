@@ -2,7 +2,7 @@
 use mathlib.Core.Path.{_≡_, refl, sym, ap, _∙_}
 use native.Mathlib.Omega.{arith}
 use Rattle.sheets.specs.Layout.{firstEdition}
-use Rattle.judging.specs.BlockLaws.{RightField, field-tested, verdict-21, verdict-22, verdict-23, verdict-0}
+use Rattle.sheets.specs.BlockLaws.{RightField, field-tested, verdict-21, verdict-22, verdict-23, verdict-0}
 use borrow.Author.Needs.{needs}
 use Rattle.judging.proofs.verdict.Statement.{statement}
 use Rattle.judging.proofs.verdict.Tie as tie

@@ -3,16 +3,16 @@ use mathlib.Core.Path.{_≡_, refl, sym, ap, _∙_}
 use mathlib.Core.Logic.{inl, inr}
 use native.Mathlib.Omega.{arith}
 use Rattle.sheets.specs.Layout.{firstEdition}
-use Rattle.judging.specs.BlockLaws.{RightField, field-is-wrong, field-is-right}
+use Rattle.sheets.specs.BlockLaws.{RightField, field-is-wrong, field-is-right}
 use borrow.Author.Needs.{needs}
 use Rattle.judging.proofs.wrong_field.Statement.{statement}
 use Rattle.judging.proofs.wrong_field.Tie as tie
 use Rattle.judging.proofs.wrong_field.Reads as reads
 use Rattle.judging.proofs.wrong_field.Lts as lts
-use Rattle.sheets.proofs.blocks_of.Reads as blocks-of-reads
-use Rattle.sheets.proofs.four.Reads as four-reads
-use Rattle.sheets.proofs.records_of.Reads as records-of-reads
-use Rattle.sheets.proofs.two.Reads as two-reads
+use Rattle.counts.proofs.blocks_of.Reads as blocks-of-reads
+use Rattle.numerals.proofs.four.Reads as four-reads
+use Rattle.counts.proofs.records_of.Reads as records-of-reads
+use Rattle.numerals.proofs.two.Reads as two-reads
 
 returns : tie.Need-returns
 returns c =

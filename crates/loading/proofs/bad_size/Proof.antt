@@ -4,7 +4,7 @@ use mathlib.Core.Logic.{inl, inr}
 use native.Mathlib.Omega.{arith}
 use borrow.Author.Tests.{eq-eqb, ne-eqb}
 use Rattle.sheets.specs.Layout.{firstEdition}
-use Rattle.loading.specs.Blocks.{badSize}
+use Rattle.sheets.specs.Blocks.{badSize}
 use borrow.Author.Needs.{needs}
 use Rattle.loading.proofs.bad_size.Statement.{statement}
 use Rattle.loading.proofs.bad_size.Tie as tie

@@ -6,16 +6,16 @@ use lib.ListN.{length}
 use Rattle.sheets.specs.Layout.{firstEdition}
 use Rattle.sheets.specs.ByteLaws.{word-two}
 use Rattle.words.specs.Answers.{refused}
-use Rattle.loading.specs.Blocks.{blocksIn, nOf}
-use Rattle.loading.specs.BlocksLaws.{RightSize, size-tested, Searched, searched-start, searched-next, searched-found, searched-none}
-use Rattle.loading.specs.Loading.{part-long, part-verdict}
+use Rattle.sheets.specs.Blocks.{blocksIn, nOf}
+use Rattle.sheets.specs.BlocksLaws.{RightSize, size-tested, Searched, searched-start, searched-next, searched-found, searched-none}
+use Rattle.sheets.specs.Loading.{part-long, part-verdict}
 use borrow.Author.Needs.{needs}
 use Rattle.loading.proofs.judge_blocks.Statement.{statement}
 use Rattle.loading.proofs.judge_blocks.Tie as tie
 use Rattle.loading.proofs.judge_blocks.Reads as reads
 use Rattle.loading.proofs.judge_blocks.Lts as lts
 use Rattle.judging.proofs.verdict.Reads as verdict-reads
-use Rattle.sheets.proofs.two.Reads as two-reads
+use Rattle.numerals.proofs.two.Reads as two-reads
 use Rattle.words.proofs.Answer.refused.Reads as refused-reads
 
 abbrev Inv-loop : tie.InvT-loop

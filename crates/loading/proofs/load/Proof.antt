@@ -5,14 +5,14 @@ use Prim.Native.Nat.{ℕ, _+_, _-_, _*_, _/_, _%_, _≤_, _<_}
 use native.Mathlib.Omega.{arith}
 use lib.ListN.{length, drop}
 use Rattle.sheets.specs.Layout.{firstEdition}
-use Rattle.loading.specs.Blocks.{field, column}
-use Rattle.loading.specs.Loading.{field-room, load-long, load-next}
+use Rattle.sheets.specs.Blocks.{field, column}
+use Rattle.sheets.specs.Loading.{field-room, load-long, load-next}
 use borrow.Author.Needs.{needs}
 use Rattle.loading.proofs.load.Statement.{statement}
 use Rattle.loading.proofs.load.Tie as tie
 use Rattle.loading.proofs.load.Reads as reads
 use Rattle.loading.proofs.load.Lts as lts
-use Rattle.sheets.proofs.four.Reads as four-reads
+use Rattle.numerals.proofs.four.Reads as four-reads
 
 abbrev Inv-loop : tie.InvT-loop
 Inv-loop book f n into₀ i₀ into i = (i ≤ n) × (into ≡ column firstEdition book f 0 i ++ drop i into₀)

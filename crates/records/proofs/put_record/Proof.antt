@@ -3,8 +3,8 @@ use mathlib.Core.Path.{_≡_, refl, sym, ap, _∙_}
 use Prim.Native.Nat.{suc, _+_}
 use native.Mathlib.Omega.{arith}
 use Rattle.sheets.specs.Bytes.{bytes}
-use Rattle.records.specs.Records.{recordOf}
-use Rattle.records.specs.RecordLaws.{record-stored}
+use Rattle.sheets.specs.Records.{recordOf}
+use Rattle.sheets.specs.RecordLaws.{record-stored}
 use borrow.Author.Needs.{needs}
 use Rattle.records.proofs.put_record.Statement.{statement}
 use Rattle.records.proofs.put_record.Tie as tie

@@ -6,8 +6,8 @@ use lib.ListN.{length}
 use lib.Seq.{sets, length-sets}
 use Rattle.sheets.specs.Layout.{headBytes}
 use Rattle.sheets.specs.Runs.{runFrom, run-store}
-use Rattle.records.specs.Records.{recordOf, recordAt}
-use Rattle.records.specs.RecordLaws.{length-record}
+use Rattle.sheets.specs.Records.{recordOf, recordAt}
+use Rattle.sheets.specs.RecordLaws.{length-record}
 use borrow.Author.Needs.{needs}
 use Rattle.records.proofs.put_records.Statement.{statement}
 use Rattle.records.proofs.put_records.Tie as tie

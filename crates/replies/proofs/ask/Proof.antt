@@ -1,49 +1,40 @@
 use mathlib.Core.Path.{_≡_}
 use borrow.Author.Needs.{needs}
-use Rattle.replies.specs.Replies.{Replies}
+use Rattle.questions.specs.Replies.{Replies}
 use Rattle.replies.proofs.ask.Statement.{statement}
 use Rattle.replies.proofs.ask.Tie as tie
 use Rattle.replies.proofs.ask.Reads as reads
 use Rattle.replies.proofs.ask.Lts as lts
 use Rattle.checker.proofs.check.Reads as check-reads
-use Rattle.timetable.proofs.holder.Reads as holder-reads
-use Rattle.timetable.proofs.next_start.Reads as next-start-reads
+use Rattle.holding.proofs.holder.Reads as holder-reads
+use Rattle.upcoming.proofs.next_start.Reads as next-start-reads
 
--- src/lib.rt:18:28
 enum-told : tie.Need-enum-told
 enum-told c = search needs
 
--- src/lib.rt:18:28
 check-requires : tie.Need-check-requires
 check-requires c κs = search needs
 
--- src/lib.rt:19:28
 enum-known-question : tie.Need-enum-known-question
 enum-known-question c = search needs
 
--- src/lib.rt:20:17
 holder-requires : tie.Need-holder-requires
 holder-requires c κs = search needs
 
--- src/lib.rt:23:29
 enum-known-question-2 : tie.Need-enum-known-question-2
 enum-known-question-2 c = search needs
 
--- src/lib.rt:23:38
 next-start-requires : tie.Need-next-start-requires
 next-start-requires c κs = search needs
 
--- src/lib.rt:14:1
 returns : tie.Need-returns
 unfolding Replies
 returns c = rw (c .before .enum-told .given .1) (c .check .ensures)
 
--- src/lib.rt:14:1
 returns-2 : tie.Need-returns-2
 unfolding Replies
 returns-2 c = rw (c .before .before .before .question .given .1) (c .before .holder .ensures)
 
--- src/lib.rt:14:1
 returns-3 : tie.Need-returns-3
 unfolding Replies
 returns-3 c = rw (c .before .before .question2 .given .1) (c .next-start .ensures)

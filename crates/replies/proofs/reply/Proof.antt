@@ -2,81 +2,67 @@ use mathlib.Core.Path.{_≡_, sym}
 use native.Mathlib.Omega.{arith}
 use lib.Seq.{length-take-le}
 use borrow.Author.Needs.{needs}
-use Rattle.replies.specs.Asking.{opened-few, answers-refused, answers-opened}
+use Rattle.questions.specs.Asking.{opened-few, answers-refused, answers-opened}
 use Rattle.replies.proofs.reply.Statement.{statement}
 use Rattle.replies.proofs.reply.Tie as tie
 use Rattle.replies.proofs.reply.Reads as reads
 use Rattle.replies.proofs.reply.Lts as lts
-use Rattle.book.proofs.read.Reads as read-reads
+use Rattle.reading.proofs.read.Reads as read-reads
 use Rattle.replies.proofs.ask.Reads as ask-reads
 
--- src/lib.rt:34:33
 slice-aggregate-read : tie.Need-slice-aggregate-read
 slice-aggregate-read c = search needs
 
--- src/lib.rt:34:47
 slice-aggregate-read-2 : tie.Need-slice-aggregate-read-2
 slice-aggregate-read-2 c = search needs
 
--- src/lib.rt:34:61
 slice-aggregate-read-3 : tie.Need-slice-aggregate-read-3
 slice-aggregate-read-3 c = search needs
 
--- src/lib.rt:34:9
 read-requires : tie.Need-read-requires
 read-requires c κs = search needs
 
--- src/lib.rt:37:9
 returns : tie.Need-returns
 returns c =
     let r = c .before .before .before .before .read in
     answers-refused _ _ _ _ _ (r .ensures) _ (c .if1 .taken)
 
--- src/lib.rt:39:13
 cast-n : tie.Need-cast-n
 cast-n c = search needs
 
--- src/lib.rt:40:19
 array-share-prefix-periods : tie.Need-array-share-prefix-periods
 array-share-prefix-periods c =
     let r = c .before .before .before .before .before .read in
     omega (arith, r .kept .1 .0, opened-few _ _ _ _ _ (r .ensures) (c .before .if1 .left))
 
--- src/lib.rt:40:19
 slice-aggregate-ask : tie.Need-slice-aggregate-ask
 slice-aggregate-ask c =
     let r = c .before .before .before .before .before .before .read in
     sym (length-take-le (r .result .index) (r .last .1 .0) (omega (arith, r .kept .1 .0, opened-few _ _ _ _ _ (r .ensures) (c .before .before .if1 .left))))
 
--- src/lib.rt:40:34
 array-share-prefix-lengths : tie.Need-array-share-prefix-lengths
 array-share-prefix-lengths c =
     let r = c .before .before .before .before .before .before .read in
     omega (arith, r .kept .1 .1 .0, opened-few _ _ _ _ _ (r .ensures) (c .before .before .if1 .left))
 
--- src/lib.rt:40:34
 slice-aggregate-ask-2 : tie.Need-slice-aggregate-ask-2
 slice-aggregate-ask-2 c =
     let r = c .before .before .before .before .before .before .before .read in
     sym (length-take-le (r .result .index) (r .last .1 .1 .0) (omega (arith, r .kept .1 .1 .0, opened-few _ _ _ _ _ (r .ensures) (c .before .before .before .if1 .left))))
 
--- src/lib.rt:40:49
 array-share-prefix-starts : tie.Need-array-share-prefix-starts
 array-share-prefix-starts c =
     let r = c .before .before .before .before .before .before .before .read in
     omega (arith, r .kept .1 .1 .1 .0, opened-few _ _ _ _ _ (r .ensures) (c .before .before .before .if1 .left))
 
--- src/lib.rt:40:49
 slice-aggregate-ask-3 : tie.Need-slice-aggregate-ask-3
 slice-aggregate-ask-3 c =
     let r = c .before .before .before .before .before .before .before .before .read in
     sym (length-take-le (r .result .index) (r .last .1 .1 .1 .0) (omega (arith, r .kept .1 .1 .1 .0, opened-few _ _ _ _ _ (r .ensures) (c .before .before .before .before .if1 .left))))
 
--- src/lib.rt:40:5
 ask-requires : tie.Need-ask-requires
 ask-requires c κs = search needs
 
--- src/lib.rt:28:1
 returns-2 : tie.Need-returns-2
 returns-2 c =
     let r = c .before .before .before .before .before .before .before .before .before .read in

@@ -7,11 +7,9 @@ use Rattle.table.proofs.validate.Reads as reads
 use Rattle.table.proofs.validate.Lts as lts
 use Rattle.table.proofs.judge.Reads as judge-reads
 
--- src/lib.rt:266:5
 judge-requires : tie.Need-judge-requires
 judge-requires c κs = search needs
 
--- src/lib.rt:263:1
 returns : tie.Need-returns
 returns c = rw (c .judge .ensures) (verdict-meets _ _)
 

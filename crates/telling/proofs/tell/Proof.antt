@@ -7,39 +7,30 @@ use Rattle.telling.proofs.tell.Reads as reads
 use Rattle.telling.proofs.tell.Lts as lts
 use Rattle.records.proofs.put4.Reads as put4-reads
 
--- src/lib.rt:31:15
 cast-low : tie.Need-cast-low
 cast-low c = search needs
 
--- src/lib.rt:32:16
 cast-high : tie.Need-cast-high
 cast-high c = search needs
 
--- src/lib.rt:33:5
 put4-requires : tie.Need-put4-requires
 put4-requires c κs = search needs
 
--- src/lib.rt:34:5
 put4-requires-2 : tie.Need-put4-requires-2
 put4-requires-2 c κs = search needs
 
--- src/lib.rt:35:5
 put4-requires-3 : tie.Need-put4-requires-3
 put4-requires-3 c κs = search needs
 
--- src/lib.rt:36:5
 put4-requires-4 : tie.Need-put4-requires-4
 put4-requires-4 c κs = search needs
 
--- src/lib.rt:37:5
 put4-requires-5 : tie.Need-put4-requires-5
 put4-requires-5 c κs = search needs
 
--- src/lib.rt:26:1
 same-length : tie.Need-same-length
 same-length c = search needs
 
--- src/lib.rt:26:1
 returns : tie.Need-returns
 returns c =
     let s = c .before .before .before .before .before .before .before .before .before .before .before .before .before .before .before .before .before .before .before .before .before in

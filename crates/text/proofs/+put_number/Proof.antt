@@ -33,7 +33,6 @@ small x w = omega arith
 shorter : (x : ℕ) → 10 ≤ x → x < 18446744073709551616 → length (decimal x) ≡ suc (length (decimal (x / 10)))
 shorter x h w = ap (λ (l : List ℕ). length l) (decimal-more x h (small x w)) ∙ length-append (decimal (x / 10)) ((48 + x % 10) ∷ []) ∙ omega arith
 
--- src/lib.rt:14:26
 put-number-cast-out :
     (t : ℕ) →
     put-number-lts.Need-cast-out
@@ -42,7 +41,6 @@ put-number-cast-out :
     put-number.Post
 put-number-cast-out t c = search needs
 
--- src/lib.rt:14:19
 put-number-add-out :
     (t : ℕ) →
     put-number-lts.Need-add-out
@@ -51,7 +49,6 @@ put-number-add-out :
     put-number.Post
 put-number-add-out t c = search needs
 
--- src/lib.rt:14:9
 put-number-slice-write-out : (t : ℕ) → put-number-lts.Need-slice-write-out (
   put-number-below t,
   put-number.Post,
@@ -60,21 +57,18 @@ put-number-slice-write-out t c =
     let a = c .before .before in
     omega (arith, a .pre .1, ap (λ (l : List ℕ). length l) (decimal-one (a .args .x) (c .if1 .taken)))
 
--- src/lib.rt:15:16
 put-number-add-result : (t : ℕ) → put-number-lts.Need-add-result (
   put-number-below t,
   put-number.Post,
 ) (put-number-at t) put-number.Post
 put-number-add-result t c = search needs
 
--- src/lib.rt:15:9
 put-number-same-length : (t : ℕ) → put-number-lts.Need-same-length (
   put-number-below t,
   put-number.Post,
 ) (put-number-at t) put-number.Post
 put-number-same-length t c = search needs
 
--- src/lib.rt:15:9
 put-number-returns :
     (t : ℕ) →
     put-number-lts.Need-returns
@@ -85,7 +79,6 @@ put-number-returns t c =
     let a = c .before .before in
     rw (decimal-one (a .args .x) (c .if1 .taken)) (put-one (a .args .out .now) (a .args .at) (48 + a .args .x))
 
--- src/lib.rt:17:9
 put-number-put-number-requires : (t : ℕ) → put-number-lts.Need-put-number-requires (
   put-number-below t,
   put-number.Post,
@@ -94,21 +87,18 @@ put-number-put-number-requires t c κs =
     let a = c .before .before .before in
     (omega (arith, a .pre .0), omega (arith, a .pre .1, shorter (a .args .x) (c .before .if1 .left) (omega arith)))
 
--- src/lib.rt:18:22
 put-number-cast-out-2 : (t : ℕ) → put-number-lts.Need-cast-out-2 (
   put-number-below t,
   put-number.Post,
 ) (put-number-at t) put-number.Post
 put-number-cast-out-2 t c = search needs
 
--- src/lib.rt:18:15
 put-number-add-out-2 : (t : ℕ) → put-number-lts.Need-add-out-2 (
   put-number-below t,
   put-number.Post,
 ) (put-number-at t) put-number.Post
 put-number-add-out-2 t c = search needs
 
--- src/lib.rt:18:5
 put-number-slice-write-out-2 : (t : ℕ) → put-number-lts.Need-slice-write-out-2 (
   put-number-below t,
   put-number.Post,
@@ -118,7 +108,6 @@ put-number-slice-write-out-2 t c =
     let put = c .before .before .put-number in
     omega (arith, a .pre .1, shorter (a .args .x) (c .before .before .before .before .if1 .left) (omega arith), put-length (put .ensures), put .ensures .place)
 
--- src/lib.rt:19:5
 put-number-add-result-2 : (t : ℕ) → put-number-lts.Need-add-result-2 (
   put-number-below t,
   put-number.Post,
@@ -130,14 +119,12 @@ put-number-add-result-2 t c =
     let to = put .ensures .place in
     search needs
 
--- src/lib.rt:9:1
 put-number-same-length-2 : (t : ℕ) → put-number-lts.Need-same-length-2 (
   put-number-below t,
   put-number.Post,
 ) (put-number-at t) put-number.Post
 put-number-same-length-2 t c = search needs
 
--- src/lib.rt:9:1
 put-number-returns-2 : (t : ℕ) → put-number-lts.Need-returns-2 (
   put-number-below t,
   put-number.Post,

@@ -7,43 +7,33 @@ use Rattle.trial.proofs.tell.Tie as tie
 use Rattle.trial.proofs.tell.Reads as reads
 use Rattle.trial.proofs.tell.Lts as lts
 
--- src/lib.rt:7:9
 returns : tie.Need-returns
 returns c = search needs
 
--- src/lib.rt:10:5
 slice-write-out : tie.Need-slice-write-out
 slice-write-out c = search needs
 
--- src/lib.rt:11:5
 slice-write-out-2 : tie.Need-slice-write-out-2
 slice-write-out-2 c = simp length-set (omega arith)
 
--- src/lib.rt:12:5
 slice-write-out-3 : tie.Need-slice-write-out-3
 slice-write-out-3 c = simp length-set (omega arith)
 
--- src/lib.rt:13:14
 cast-out : tie.Need-cast-out
 cast-out c = search needs
 
--- src/lib.rt:13:5
 slice-write-out-4 : tie.Need-slice-write-out-4
 slice-write-out-4 c = simp length-set (omega arith)
 
--- src/lib.rt:14:14
 cast-out-2 : tie.Need-cast-out-2
 cast-out-2 c = search needs
 
--- src/lib.rt:14:5
 slice-write-out-5 : tie.Need-slice-write-out-5
 slice-write-out-5 c = search needs
 
--- src/lib.rt:5:1
 same-length : tie.Need-same-length
 same-length c = search needs
 
--- src/lib.rt:5:1
 returns-2 : tie.Need-returns-2
 returns-2 c = search needs
 

@@ -8,25 +8,20 @@ use Rattle.table.proofs.Table.of.Lts as lts
 use Rattle.columns.proofs.greatest.Reads as greatest-reads
 use Rattle.columns.proofs.least.Reads as least-reads
 
--- src/lib.rt:34:13
 least-requires : tie.Need-least-requires
 least-requires c κs = search needs
 
--- src/lib.rt:35:13
 greatest-requires : tie.Need-greatest-requires
 greatest-requires c κs = search needs
 
--- src/lib.rt:37:13
 returns : tie.Need-returns
 returns c =
     three-none _ (c .before .before .least .result) (c .before .greatest .result)
     (c .before .before .least .ensures) (c .before .greatest .ensures) (c .if1 .taken)
 
--- src/lib.rt:46:19
 div-t5 : tie.Need-div-t5
 div-t5 c = search needs
 
--- src/lib.rt:31:5
 returns-2 : tie.Need-returns-2
 returns-2 c =
     three-some _ (c .before .before .least .result) (c .before .greatest .result)

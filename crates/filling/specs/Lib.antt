@@ -1,3 +1,0 @@
-pub mod Filling
-pub mod Cases
-pub mod FillingLaws
