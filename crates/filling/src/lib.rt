@@ -1,4 +1,4 @@
-// The bytes of the blocks that are written.
+// The parts of a block that is written: its first bytes, its zeros, its sums.
 ghost use mathlib.Core.Path.{_≡_};
 ghost use Prim.Native.Nat.{_-_, _≤_, _<_};
 ghost use lib.ListN.{length, take, replicate};

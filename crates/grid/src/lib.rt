@@ -1,4 +1,4 @@
-// Corners and starts, one probe at a time and a whole column at a time.
+// Corners and starts, one probe at a time.
 ghost use mathlib.Core.Path.{_≡_};
 ghost use Prim.Native.Nat.{_<_};
 ghost use lib.ListN.{length, getD};

@@ -1,4 +1,4 @@
-// Columns of corners and of starts.
+// Columns of corners and of starts: the first corner off the grid, and every corner or start written.
 ghost use mathlib.Core.Path.{_≡_};
 ghost use Prim.Native.Nat.{ℕ, _≤_, _<_};
 ghost use lib.ListN.{length, getD};

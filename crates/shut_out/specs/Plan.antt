@@ -131,28 +131,34 @@ Settled c = ((o : Outcome) → Meets c o → (o .answer ≡ c .answer) × (o .fi
 is-planned : (Ts ps ss fs : List ℕ) (o : Outcome) → Plans Ts ps ss fs o → o ≡ planned Ts ps ss fs
 is-planned Ts ps ss fs o p = plan-unique Ts ps ss fs o (planned Ts ps ss fs) p (planned-meets Ts ps ss fs)
 
--- what is seen of a claim: the computed answer and fills, and a number m of the outcome that the wrong one has not
+-- each table is planned once, whatever the wrong outcome is; a claim is then settled by what its wrong outcome shows in the answer, in a fill or in the starts
 module _ (c : Claim) where
   abbrev plan-of : Outcome
   plan-of = planned (c .periods) (c .lengths) (c .starts) (c .fills)
 
-  settled-by : plan-of .answer ≡ c .answer → plan-of .fills ≡ c .filled → (c .wrong ≡ plan-of → ⊥) → Settled c
-  settled-by a f other = (
-    λ o p. (ap (λ (r : Outcome). r .answer) (is-planned _ _ _ _ o p) ∙ a, ap (λ (r : Outcome). r .fills) (is-planned _ _ _ _ o p) ∙ f),
+  abbrev Right : Type 0
+  Right = (plan-of .answer ≡ c .answer) × (plan-of .fills ≡ c .filled)
+
+  settled-by : Right → (c .wrong ≡ plan-of → ⊥) → Settled c
+  settled-by r other = (
+    λ o p. (ap (λ (s : Outcome). s .answer) (is-planned _ _ _ _ o p) ∙ r .0, ap (λ (s : Outcome). s .fills) (is-planned _ _ _ _ o p) ∙ r .1),
     λ p. other (is-planned _ _ _ _ (c .wrong) p),
   )
 
-  settled : plan-of .answer ≡ c .answer → plan-of .fills ≡ c .filled → (see : Outcome → ℕ) (m : ℕ) → see plan-of ≡ m → eqb (see (c .wrong)) m ≡ false → Settled c
-  settled a f see m e n = settled-by a f (differs see plan-of (c .wrong) m e n)
+  in-answer : Right → (see : Answer → ℕ) (m : ℕ) → see (c .answer) ≡ m → eqb (see (c .wrong .answer)) m ≡ false → Settled c
+  in-answer r see m e n = settled-by r (differs (λ (s : Outcome). see (s .answer)) plan-of (c .wrong) m (ap see (r .0) ∙ e) n)
 
-abbrev number : Outcome → ℕ
-number o = o .answer .number
+  in-fill : Right → (k m : ℕ) → getD (c .filled) k 0 ≡ m → eqb (getD (c .wrong .fills) k 0) m ≡ false → Settled c
+  in-fill r k m e n = settled-by r (differs (λ (s : Outcome). getD (s .fills) k 0) plan-of (c .wrong) m (ap (λ (fs : List ℕ). getD fs k 0) (r .1) ∙ e) n)
 
-abbrev index : Outcome → ℕ
-index o = o .answer .index
+  in-starts : Right → (see : Outcome → ℕ) (m : ℕ) → see plan-of ≡ m → eqb (see (c .wrong)) m ≡ false → Settled c
+  in-starts r see m e n = settled-by r (differs see plan-of (c .wrong) m e n)
 
-abbrev fill : ℕ → Outcome → ℕ
-fill r o = getD (o .fills) r 0
+abbrev number : Answer → ℕ
+number a = a .number
+
+abbrev index : Answer → ℕ
+index a = a .index
 
 abbrev start : ℕ → Outcome → ℕ
 start i o = getD (o .starts) i 0
@@ -173,29 +179,49 @@ sub-bins-meet e =
     clean 47 2 5 third sixth (holds-as 20 5 3 _ 47 (ap (start 2) e) (omega arith, omega arith)) (holds-as 60 3 47 _ 47 (ap (start 5) e) (omega arith, omega arith)) in
     omega (arith, one)
 
+-- the plans of the four tables; the wrong outcome has no part in them
+abbrev nothing : Outcome
+nothing = outcome done [] []
+
+five-right : Right (five nothing)
+unfolding anyBelow lowest lowestFrom firstOf leastOf greatestOf shortest longest rows height widths divides chained badPeriod badLength unchained findings before insert orderBelow order raised fits bins lowestBin marked binOf startIn fitted planFindings placed planned
+five-right = (refl, refl)
+
+full-right : Right (full nothing)
+unfolding anyBelow lowest lowestFrom firstOf leastOf greatestOf shortest longest rows height widths divides chained badPeriod badLength unchained findings before insert orderBelow order raised fits bins lowestBin marked binOf startIn fitted planFindings placed planned
+full-right = (refl, refl)
+
+even-right : Right (even nothing)
+unfolding anyBelow lowest lowestFrom firstOf leastOf greatestOf shortest longest rows height widths divides chained badPeriod badLength unchained findings before insert orderBelow order raised fits bins lowestBin marked binOf startIn fitted planFindings placed planned
+even-right = (refl, refl)
+
+seven-right : Right (seven nothing)
+unfolding anyBelow lowest lowestFrom firstOf leastOf greatestOf shortest longest rows height widths divides chained badPeriod badLength unchained findings before insert orderBelow order raised fits bins lowestBin marked binOf startIn fitted planFindings placed planned
+seven-right = (refl, refl)
+
 pub plan-shuts-out : Each Settled claims
 unfolding anyBelow lowest lowestFrom firstOf leastOf greatestOf shortest longest rows height widths divides chained badPeriod badLength unchained findings before insert orderBelow order raised fits bins lowestBin marked binOf startIn fitted planFindings placed planned
 plan-shuts-out =
-    settled _ refl refl number 0 refl refl
-    also settled _ refl refl (λ o. start 0 o % 10) 0 (start-x (10 ∷ 20 ∷ 20 ∷ 60 ∷ 60 ∷ []) 10 0 0) refl
-    also settled _ refl refl (fill 0) 10 refl refl
-    also settled _ refl refl (fill 0) 10 refl refl
-    also settled _ refl refl number 0 refl refl
-    also settled _ refl refl (λ o. start 1 o % 8) 2 (start-x (8 ∷ 16 ∷ 16 ∷ 32 ∷ 32 ∷ 32 ∷ 32 ∷ []) 16 2 0) refl
-    also settled _ refl refl (fill 5) 7 refl refl
-    also settled _ refl refl (fill 0) 6 refl refl
-    also settled _ refl refl (fill 0) 6 refl refl
-    also settled _ refl refl (fill 0) 6 refl refl
-    also settled _ refl refl (start 1) mark refl refl
-    also settled _ refl refl index 1 refl refl
-    also settled _ refl refl number 0 refl refl
-    also settled _ refl refl (start 2) 7777 refl refl
-    also settled _ refl refl (fill 1) 7777 refl refl
-    also settled _ refl refl (λ o. start 0 o % 10) 0 (start-x (10 ∷ 10 ∷ []) 10 0 0) refl
-    also settled _ refl refl index 0 refl refl
-    also settled _ refl refl number 7 refl refl
-    also settled _ refl refl (fill 0) 7777 refl refl
-    also settled-by _ refl refl sub-bins-meet
+    in-answer _ five-right number 0 refl refl
+    also in-starts _ five-right (λ o. start 0 o % 10) 0 (start-x (10 ∷ 20 ∷ 20 ∷ 60 ∷ 60 ∷ []) 10 0 0) refl
+    also in-fill _ five-right 0 10 refl refl
+    also in-fill _ five-right 0 10 refl refl
+    also in-answer _ five-right number 0 refl refl
+    also in-starts _ seven-right (λ o. start 1 o % 8) 2 (start-x (8 ∷ 16 ∷ 16 ∷ 32 ∷ 32 ∷ 32 ∷ 32 ∷ []) 16 2 0) refl
+    also in-fill _ five-right 5 7 refl refl
+    also in-fill _ full-right 0 6 refl refl
+    also in-fill _ full-right 0 6 refl refl
+    also in-fill _ full-right 0 6 refl refl
+    also in-starts _ full-right (start 1) mark refl refl
+    also in-answer _ full-right index 1 refl refl
+    also in-answer _ even-right number 0 refl refl
+    also in-starts _ even-right (start 2) 7777 refl refl
+    also in-fill _ even-right 1 7777 refl refl
+    also in-starts _ even-right (λ o. start 0 o % 10) 0 (start-x (10 ∷ 10 ∷ []) 10 0 0) refl
+    also in-answer _ (refl, refl) index 0 refl refl
+    also in-answer _ (refl, refl) number 7 refl refl
+    also in-fill _ (refl, refl) 0 7777 refl refl
+    also settled-by _ (refl, refl) sub-bins-meet
     also tt
 
 -- no outcome serves all tables

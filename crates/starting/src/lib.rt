@@ -9,13 +9,7 @@ use table::Table;
 use words::Answer;
 
 // Numbers 1 to 6, 7 and 18 of a conversion of corners.
-fn starts_judged(
-    periods: &[u32],
-    lengths: &[u32],
-    xs: &[u32],
-    ys: &[u32],
-    starts: &[u32],
-) -> Answer
+fn starts_judged(periods: &[u32], lengths: &[u32], xs: &[u32], ys: &[u32], starts: &[u32]) -> Answer
     ensures { λ r. ⌜ r ≡ firstOf (startFindings (now (periods .entry)) (now (lengths .entry)) (now (xs .entry)) (now (ys .entry)) (now (starts .entry))) refused done ⌝ }
 {
     let n = periods.len();

@@ -1,5 +1,5 @@
-// Every public call as an export on slices, for tests and benchmarks alone. The answer goes into `out` as five numbers, where it is long enough:
-// number, index, second index, the tick's lower and upper half.
+// Every public call as an export on slices, for tests and benchmarks alone.
+// The answer goes into `out` as five numbers, where it is long enough: number, index, second index, the tick's lower and upper half.
 use words::Answer;
 
 fn tell(given: Answer, out: &mut [u32]) {
@@ -28,7 +28,7 @@ pub extern "C" fn trial_to_corners(
     ys: &mut [u32],
     out: &mut [u32],
 ) {
-    tell(cornering::to_corners(periods, lengths, starts, xs, ys), out);
+    tell(packing::to_corners(periods, lengths, starts, xs, ys), out);
 }
 
 #[no_mangle]
@@ -40,7 +40,7 @@ pub extern "C" fn trial_to_starts(
     starts: &mut [u32],
     out: &mut [u32],
 ) {
-    tell(starting::to_starts(periods, lengths, xs, ys, starts), out);
+    tell(packing::to_starts(periods, lengths, xs, ys, starts), out);
 }
 
 #[no_mangle]
@@ -51,7 +51,7 @@ pub extern "C" fn trial_plan(
     fills: &mut [u32],
     out: &mut [u32],
 ) {
-    tell(planning::plan(periods, lengths, starts, fills), out);
+    tell(packing::plan(periods, lengths, starts, fills), out);
 }
 
 #[no_mangle]
@@ -67,7 +67,7 @@ pub extern "C" fn trial_holder(
     tick: u64,
     out: &mut [u32],
 ) {
-    let held = holding::holder(periods, lengths, starts, tick);
+    let held = timetable::holder(periods, lengths, starts, tick);
     tell(held.answer, out);
 }
 
@@ -79,7 +79,7 @@ pub extern "C" fn trial_next_start(
     tick: u64,
     out: &mut [u32],
 ) {
-    tell(upcoming::next_start(periods, lengths, starts, tick), out);
+    tell(timetable::next_start(periods, lengths, starts, tick), out);
 }
 
 #[no_mangle]
@@ -90,7 +90,7 @@ pub extern "C" fn trial_read(
     starts: &mut [u32],
     out: &mut [u32],
 ) {
-    tell(reading::read(bytes, periods, lengths, starts), out);
+    tell(book::read(bytes, periods, lengths, starts), out);
 }
 
 #[no_mangle]
@@ -101,15 +101,15 @@ pub extern "C" fn trial_write(
     bytes: &mut [u8],
     out: &mut [u32],
 ) {
-    tell(writing::write(periods, lengths, starts, bytes), out);
+    tell(book::write(periods, lengths, starts, bytes), out);
 }
 
 #[no_mangle]
 pub extern "C" fn trial_plan_page(book: &[u8], page: &mut [u8], out: &mut [u32]) {
-    tell(plan_paper::plan_page(book, page), out);
+    tell(pages::plan_page(book, page), out);
 }
 
 #[no_mangle]
 pub extern "C" fn trial_check_page(book: &[u8], page: &mut [u8], out: &mut [u32]) {
-    tell(check_paper::check_page(book, page), out);
+    tell(pages::check_page(book, page), out);
 }
