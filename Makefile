@@ -31,8 +31,7 @@ fmt:
 	@rt fmt
 
 bench:
-	@sh tests/archive trial
-	@sh tests/archive masters
+	@sh tests/made
 	@cargo run --offline --locked --quiet --release --manifest-path tests/reference/compare/Cargo.toml --bin bench
 
 stack:

@@ -10,7 +10,7 @@ calls="masters: the exports called from C give every number of their list, the r
 stop() { cat "$room/said"; echo "FAILED: $*"; exit 1; }
 
 [ "$(uname -m)" = x86_64 ] || { echo "FAILED: $calls (archives link on x86-64 alone, and this machine is $(uname -m))"; exit 1; }
-sh tests/archive masters >"$room/said" 2>&1 || stop "$calls (there is no archive of masters)"
+sh tests/made >"$room/said" 2>&1 || stop "$calls (there is no archive of masters)"
 
 # twice in one file, and with every name of it used
 cat >"$room/uses.c" <<'END'

@@ -27,7 +27,7 @@ rm -f bin/next
 # all but the last command may say what they like; the last one's output is compared
 sed '$d' "$room/commands" >"$room/first"
 sed -n '$p' "$room/commands" >"$room/last"
-sh -e "$room/first" >"$room/said" 2>&1 || stop "a command fails"
+sh tests/alone sh -e "$room/first" >"$room/said" 2>&1 || stop "a command fails"
 grep -i warning "$room/said" && stop "a command warns"
 sh -e "$room/last" >"$room/got" 2>"$room/said" || stop "the last command fails"
 cmp "$room/got" "$room/wanted" >"$room/said" 2>&1 || { cat "$room/got"; stop "it prints something else"; }

@@ -9,7 +9,7 @@ what="masters: no export takes more than LINE_STACK_BYTES, each call is within 2
 stop() { cat "$room/said"; echo "FAILED: $what ($*)"; exit 1; }
 most=64 # KiB in which each program must run
 
-for name in masters trial; do sh tests/archive $name >"$room/said" 2>&1 || stop "there is no archive of $name"; done
+sh tests/made >"$room/said" 2>&1 || stop "archives and programs are not there"
 gcc -std=gnu99 -Wall -Wextra -Werror -O1 -Iinclude tests/masters/stack.c target/staticlib/libmasters.a target/staticlib/libtrial.a -Wl,-z,now -o "$room/stack" >"$room/said" 2>&1 ||
     stop "the measurement cannot be built"
 "$room/stack" >"$room/said" 2>&1 || stop "a call went wrong, or took more than LINE_STACK_BYTES"
@@ -29,7 +29,6 @@ done <"$room/said"
 "$room/stack" "$room/full.book" >"$room/said" 2>&1 || stop "there is no book of a full line"
 echo 'int main(void) { return 0; }' >"$room/empty.c"
 gcc -O1 "$room/empty.c" -o "$room/empty" >"$room/said" 2>&1 || stop "an empty program cannot be built"
-rt check plan check_list >"$room/said" 2>&1 || stop "the programs are not there"
 runs() { # PROGRAM LIMIT
     many=0
     while [ $many -lt 50 ]; do

@@ -8,7 +8,7 @@ what="programs: with no input, an input that cannot be read, and an output that 
 wrong() { echo "$*"; echo "FAILED: $what"; exit 1; }
 
 [ "$(uname -m)" = x86_64 ] || wrong "programs run on x86-64 alone, and this machine is $(uname -m)"
-rt check plan check_list >"$room/said" 2>&1 || { cat "$room/said"; wrong "the programs are not there"; }
+sh tests/made >"$room/said" 2>&1 || { cat "$room/said"; wrong "the programs are not there"; }
 printf '20 0\n' >"$room/plan"
 printf '20 0 0 0\n' >"$room/check_list"
 held=0

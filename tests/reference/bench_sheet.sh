@@ -8,12 +8,10 @@ wrote=$(mktemp) || exit 2
 trap 'rm -f "$said" "$wrote"' EXIT
 fail() { echo "FAILED: $what ($*)"; exit 1; }
 
-for name in trial masters; do
-    sh tests/archive $name >"$said" 2>&1 || { cat "$said"; fail "there is no archive of $name"; }
-done
+sh tests/made >"$said" 2>&1 || { cat "$said"; fail "there is no archive of trial"; }
 package="--offline --locked --quiet --manifest-path tests/reference/compare/Cargo.toml"
 # shellcheck disable=SC2086
-cargo build $package --jobs 1 --profile checked --bin bench_sheet >"$said" 2>&1 || { cat "$said"; fail "the program cannot be built"; }
+sh tests/alone cargo build $package --jobs 1 --profile checked --bin bench_sheet >"$said" 2>&1 || { cat "$said"; fail "the program cannot be built"; }
 tests/reference/compare/target/checked/bench_sheet >"$wrote" || fail "the program did not run to its end"
 cmp "$wrote" tests/reference/bench_sheet.txt || fail "see the byte above"
 echo "ok: $what ($(wc -l <"$wrote") lines)"

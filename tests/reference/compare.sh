@@ -9,12 +9,9 @@ trap 'rm -f "$said"' EXIT
 fail() { echo "FAILED: $what ($*)"; exit 1; }
 
 [ "$(uname -m)" = x86_64 ] || fail "archives link on x86-64 alone, and this machine is $(uname -m)"
-for name in trial masters; do
-    sh tests/archive $name >"$said" 2>&1 || { cat "$said"; fail "there is no archive of $name"; }
-done
-rt check plan check_list >"$said" 2>&1 || { cat "$said"; fail "the programs are not there"; }
+sh tests/made >"$said" 2>&1 || { cat "$said"; fail "archives and programs are not there"; }
 package="--offline --locked --quiet --manifest-path tests/reference/compare/Cargo.toml"
 # shellcheck disable=SC2086
-cargo build $package --jobs 1 --profile checked --bin compare >"$said" 2>&1 || { cat "$said"; fail "the comparison cannot be built"; }
+sh tests/alone cargo build $package --jobs 1 --profile checked --bin compare >"$said" 2>&1 || { cat "$said"; fail "the comparison cannot be built"; }
 tests/reference/compare/target/checked/compare || fail "see above"
 echo "ok: $what"

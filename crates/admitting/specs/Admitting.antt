@@ -13,9 +13,9 @@ use Rattle.lists.specs.Pick.{either}
 use Rattle.lists.specs.Lowest.{lowest}
 use Rattle.lists.specs.Refusals.{Line, line, whole}
 use Rattle.lists.specs.Answering.{Found, found, tested}
-use Rattle.table.specs.Table.{lines, lateLine, DifferThree}
-use Rattle.table.specs.Verdict.{findings, late}
-use Rattle.grid.specs.Grid.{OffGridAt, offGrid}
+use Rattle.probes.specs.Table.{lines, lateLine, DifferThree}
+use Rattle.probes.specs.Verdict.{findings, late}
+use Rattle.chain.specs.Grid.{OffGridAt, offGrid}
 
 module _ (Ts ps ss xs ys : List ℕ) where
   abbrev pub cornerLines : List Line

@@ -18,12 +18,12 @@ use Rattle.lists.specs.Refusals.{line, whole}
 use Rattle.lists.specs.Answering.{Found, found, tested, firstOf, first-of-append, AllFind, all-find-append, finds-whole}
 use Rattle.words.specs.declared.Answer.{Answer}
 use Rattle.words.specs.Answers.{refused, done}
-use Rattle.table.specs.Table.{lines, lateLine, Differ, DifferThree, rows}
-use Rattle.table.specs.Verdict.{findings, late, verdict}
-use Rattle.table.specs.Laws.{findings-find, late-meets}
-use Rattle.table.specs.Composing.{Numbered, numbered-append, findings-numbered, compose-done, compose-refused, refusal-is}
-use Rattle.grid.specs.Grid.{OffGridAt, offGrid}
-use Rattle.grid.specs.Laws.{off-grid-tells}
+use Rattle.probes.specs.Table.{lines, lateLine, Differ, DifferThree, rows}
+use Rattle.probes.specs.Verdict.{findings, late, verdict}
+use Rattle.probes.specs.Laws.{findings-find, late-meets}
+use Rattle.probes.specs.Composing.{Numbered, numbered-append, findings-numbered, compose-done, compose-refused, refusal-is}
+use Rattle.chain.specs.Grid.{OffGridAt, offGrid}
+use Rattle.chain.specs.Grid.{off-grid-tells}
 use Rattle.stack.specs.FirstFit.{planLines, planFindings}
 use Rattle.admitting.specs.Admitting.{cornerLines, cornerLast, cornerFindings, DifferFour, startLines, startLast, startFindings}
 

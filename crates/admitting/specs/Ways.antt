@@ -14,9 +14,9 @@ use Rattle.lists.specs.Lowest.{lowest}
 use Rattle.lists.specs.Answering.{Found, found, firstOf}
 use Rattle.words.specs.declared.Answer.{Answer}
 use Rattle.words.specs.Answers.{refused, done}
-use Rattle.table.specs.Table.{rows}
-use Rattle.table.specs.Verdict.{findings, late, verdict}
-use Rattle.grid.specs.Grid.{offGrid}
+use Rattle.probes.specs.Table.{rows}
+use Rattle.probes.specs.Verdict.{findings, late, verdict}
+use Rattle.chain.specs.Grid.{offGrid}
 use Rattle.stack.specs.FirstFit.{planFindings}
 use Rattle.admitting.specs.Admitting.{cornerLast, cornerFindings, startLast, startFindings}
 use Rattle.admitting.specs.Checks.{judged-refused, judged-passed, short-way, long-way, place-way, none-way, either-left, either-right, either-none, same-left, other-left, differ-way, planLast}

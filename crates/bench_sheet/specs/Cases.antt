@@ -16,8 +16,8 @@ use lib.ListN.{length, replicate}
 use Rattle.words.specs.declared.Answer.{Answer}
 use Rattle.words.specs.Answers.{done, refused, pair, mark}
 use Rattle.wire.specs.Wire.{Clean}
-use Rattle.table.specs.Table.{rows, widths}
-use Rattle.table.specs.Verdict.{verdict}
+use Rattle.probes.specs.Table.{rows, widths}
+use Rattle.probes.specs.Verdict.{verdict}
 use Rattle.chain.specs.Flip.{flip}
 use Rattle.stack.specs.FirstFit.{Outcome, outcome, planned}
 use Rattle.meetings.specs.Check.{checked}

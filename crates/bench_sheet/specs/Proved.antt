@@ -11,10 +11,10 @@ use Rattle.lists.specs.Answering.{firstOf}
 use Rattle.wire.specs.Wire.{Clean}
 use Rattle.wire.specs.Meeting.{lag, apart, sharedTick, apartAt, tickAt, apartBelow, cleanBelow, clean}
 use Rattle.wire.specs.CleanTest.{clean-tells}
-use Rattle.table.specs.Table.{leastOf, greatestOf, shortest, longest, rows, height, widths}
-use Rattle.table.specs.Verdict.{divides, chained, badPeriod, badLength, unchained, late, findings, listFindings, verdict}
-use Rattle.table.specs.Laws.{passes-sound, sound-gives}
-use Rattle.table.specs.Widths.{sound-positive}
+use Rattle.probes.specs.Table.{leastOf, greatestOf, shortest, longest, rows, height, widths}
+use Rattle.probes.specs.Verdict.{divides, chained, badPeriod, badLength, unchained, late, findings, listFindings, verdict}
+use Rattle.probes.specs.Laws.{passes-sound, sound-gives}
+use Rattle.probes.specs.Widths.{sound-positive}
 use Rattle.chain.specs.Digits.{product, digits}
 use Rattle.chain.specs.Flip.{turned, levels}
 use Rattle.chain.specs.Flip.Formula.{flip-computes, unflip-computes}

@@ -22,7 +22,7 @@ fn put_block(block: &mut [u8], periods: &[u32], lengths: &[u32], starts: &[u32],
     ensures { λ r. ⌜ now (block .exit) ≡ blockOf firstEdition (now (periods .entry)) (now (lengths .entry)) (now (starts .entry)) b ⌝ }
 {
     let n = periods.len();
-    let k = counts::records_of(n, b);
+    let k = edition::records_of(n, b);
     put_head(block, n, b);
     put_records(block, periods, lengths, starts, b * Book::RECORDS, k);
     put_zeros(block, Book::HEAD + k * Book::RECORD);

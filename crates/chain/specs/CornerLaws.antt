@@ -16,8 +16,8 @@ use native.Mathlib.Omega.{arith}
 use lib.Arith.{digits-lt}
 use lib.ListN.{length, getD}
 use Rattle.lists.specs.Harmonic.{Harmonic}
-use Rattle.table.specs.Table.{shortest, rows, height}
-use Rattle.table.specs.Heights.{shortest-positive, slots-times, height-positive, rows-slots}
+use Rattle.probes.specs.Table.{shortest, rows, height}
+use Rattle.probes.specs.Heights.{shortest-positive, slots-times, height-positive, rows-slots}
 use Rattle.chain.specs.Products.{Level}
 use Rattle.chain.specs.Digits.{AllPositive}
 use Rattle.chain.specs.Flip.{flip, unflip}

@@ -8,7 +8,7 @@
 use mathlib.Core.Logic.{_⊎_}
 use mathlib.Core.List.{List}
 use Prim.Native.Nat.{ℕ, _+_, _*_, _/_, _%_, _≤_, _∣_}
-use Rattle.table.specs.Table.{shortest, rows, height}
+use Rattle.probes.specs.Table.{shortest, rows, height}
 use Rattle.chain.specs.Flip.{flip, unflip}
 use Rattle.chain.specs.Ratios.{ratios}
 

@@ -14,3 +14,4 @@ pub mod Passes
 pub mod Gathering
 pub mod Corners
 pub mod CornerLaws
+pub mod Grid

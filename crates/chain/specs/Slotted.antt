@@ -9,7 +9,7 @@ use Prim.Native.Nat.{ℕ, _/_, _≤_, _<_}
 use native.Mathlib.Omega.{arith}
 use lib.ListN.{length, getD}
 use Rattle.lists.specs.Harmonic.{Harmonic}
-use Rattle.table.specs.Table.{mostRows, shortest, rows}
+use Rattle.probes.specs.Table.{mostRows, shortest, rows}
 use Rattle.chain.specs.Digits.{product, AllPositive}
 use Rattle.chain.specs.Products.{Level}
 use Rattle.chain.specs.Flip.{flip, unflip}

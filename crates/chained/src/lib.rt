@@ -5,8 +5,8 @@ ghost use lib.ListN.{length, getD};
 ghost use Rattle.lists.specs.Pick.{Tells};
 ghost use Rattle.lists.specs.Lowest.{lowest};
 ghost use Rattle.words.specs.Ticks.{mostPeriod};
-ghost use Rattle.chained.specs.Chained.{unchained};
-ghost use Rattle.chained.specs.Seen.{mostChained, Seen, Clashes};
+ghost use Rattle.probes.specs.Chained.{unchained};
+ghost use Rattle.probes.specs.Seen.{mostChained, Seen, Clashes};
 
 // The different periods that a search keeps.
 pub struct Kept {

@@ -2,7 +2,7 @@
 ghost use mathlib.Core.Path.{_≡_};
 ghost use Prim.Native.Nat.{_<_};
 ghost use lib.ListN.{length};
-ghost use Rattle.table.specs.Table.{widths};
+ghost use Rattle.probes.specs.Table.{widths};
 ghost use Rattle.meetings.specs.Check.{partner, meetingOf, Checks};
 ghost use Rattle.meetings.specs.Passing.{Passes};
 use pairs::apart_at;

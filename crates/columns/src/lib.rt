@@ -3,7 +3,7 @@ ghost use mathlib.Core.Path.{_≡_};
 ghost use Prim.Native.Nat.{ℕ, _≤_};
 ghost use lib.ListN.{length};
 ghost use Rattle.lists.specs.Lowest.{lowest};
-ghost use Rattle.columns.specs.Columns.{shortest, longest, badPeriod, badLength, late};
+ghost use Rattle.probes.specs.Columns.{shortest, longest, badPeriod, badLength, late};
 use words::Period;
 
 // w: the least period.

@@ -10,10 +10,10 @@ use native.Mathlib.Omega.{arith}
 use lib.ListN.{length, getD}
 use Rattle.lists.specs.Sums.{sumBelow, sumBelow-same}
 use Rattle.wire.specs.Window.{heldIn, windows}
-use Rattle.table.specs.Table.{Sound, longest, height}
-use Rattle.table.specs.Laws.{sound-gives}
-use Rattle.table.specs.Extremes.{shortest-least}
-use Rattle.table.specs.Heights.{height-times}
+use Rattle.probes.specs.Table.{Sound, longest, height}
+use Rattle.probes.specs.Laws.{sound-gives}
+use Rattle.probes.specs.Extremes.{shortest-least}
+use Rattle.probes.specs.Heights.{height-times}
 use Rattle.stack.specs.Room.{busyTicks}
 use Rattle.stack.specs.Planning.{busy-sum}
 

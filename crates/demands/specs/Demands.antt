@@ -34,10 +34,10 @@ use Rattle.words.specs.declared.Answer.{Answer}
 use Rattle.words.specs.Answers.{refused, done, mark}
 use Rattle.wire.specs.Wire.{HoldsAt, Clean}
 use Rattle.wire.specs.Window.{heldIn}
-use Rattle.table.specs.Table.{lines, listLines, Differ, Sound, longest, rows, widths}
-use Rattle.table.specs.Verdict.{Validates, verdict}
-use Rattle.table.specs.Laws.{verdict-meets, sound-gives, never-mark}
-use Rattle.table.specs.Widths.{widths-none}
+use Rattle.probes.specs.Table.{lines, listLines, Differ, Sound, longest, rows, widths}
+use Rattle.probes.specs.Verdict.{Validates, verdict}
+use Rattle.probes.specs.Laws.{verdict-meets, sound-gives, never-mark}
+use Rattle.probes.specs.Widths.{widths-none}
 use Rattle.table.proofs.Promises.{validate-unique, validate-numbers}
 use Rattle.chain.specs.Corners.{OffGrid}
 use Rattle.order.specs.Order.{Before, order}

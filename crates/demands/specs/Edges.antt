@@ -20,9 +20,9 @@ use Rattle.lists.specs.Refusals.{Line, First}
 use Rattle.words.specs.declared.Answer.{Answer}
 use Rattle.words.specs.Answers.{refused, done, mark}
 use Rattle.wire.specs.Wire.{Clean}
-use Rattle.table.specs.Table.{Sound, greatestOf, shortest, longest, rows, height, widths}
-use Rattle.table.specs.Verdict.{Validates, findings, verdict}
-use Rattle.table.specs.Laws.{passes-sound}
+use Rattle.probes.specs.Table.{Sound, greatestOf, shortest, longest, rows, height, widths}
+use Rattle.probes.specs.Verdict.{Validates, findings, verdict}
+use Rattle.probes.specs.Laws.{passes-sound}
 use Rattle.order.specs.Order.{orderBelow, order}
 use Rattle.order.specs.Listed.{order-length, order-probe}
 use Rattle.stack.specs.Stack.{raise, raised, bins}

@@ -15,9 +15,9 @@ use Rattle.words.specs.Answers.{done}
 use Rattle.wire.specs.Wire.{Clean}
 use Rattle.wire.specs.Meeting.{lag, Apart}
 use Rattle.wire.specs.Apartness.{apart-sound, apart-complete, apart-as-printed}
-use Rattle.table.specs.Table.{Sound}
-use Rattle.table.specs.Laws.{Soundness, sound-gives}
-use Rattle.table.specs.Extremes.{shortest-least}
+use Rattle.probes.specs.Table.{Sound}
+use Rattle.probes.specs.Laws.{Soundness, sound-gives}
+use Rattle.probes.specs.Extremes.{shortest-least}
 use Rattle.meetings.specs.Check.{Checks}
 use Rattle.meetings.specs.Passing.{Passes}
 use Rattle.meetings.proofs.Promises.{check-sound, check-complete}

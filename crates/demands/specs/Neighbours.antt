@@ -23,10 +23,10 @@ use Rattle.wire.specs.Wire.{NeverMeet, HoldsAt, Clean}
 use Rattle.wire.specs.Meeting.{lag, Apart, apart, sharedTick, apartAt, tickAt, apartBelow, cleanBelow, clean}
 use Rattle.wire.specs.CleanTest.{clean-tells}
 use Rattle.wire.specs.Window.{held, heldIn}
-use Rattle.table.specs.Table.{Sound, BadLength, leastOf, greatestOf, shortest, longest, rows, height, widths}
-use Rattle.table.specs.Verdict.{Validates, divides, chained, badPeriod, badLength, unchained, late, findings, listFindings, verdict}
-use Rattle.table.specs.Laws.{verdict-meets, passes-sound, sound-gives}
-use Rattle.table.specs.Composing.{listVerdict}
+use Rattle.probes.specs.Table.{Sound, BadLength, leastOf, greatestOf, shortest, longest, rows, height, widths}
+use Rattle.probes.specs.Verdict.{Validates, divides, chained, badPeriod, badLength, unchained, late, findings, listFindings, verdict}
+use Rattle.probes.specs.Laws.{verdict-meets, passes-sound, sound-gives}
+use Rattle.probes.specs.Composing.{listVerdict}
 use Rattle.order.specs.Order.{before, insert, orderBelow, order}
 use Rattle.stack.specs.Stack.{raised, fits, bins, lowestBin}
 use Rattle.stack.specs.FirstFit.{Outcome, marked, binOf, startIn, fitted, planFindings, placed, planned}

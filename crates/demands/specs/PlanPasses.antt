@@ -11,12 +11,12 @@ use lib.Seq.{getD-take, length-take-le}
 use Rattle.words.specs.declared.Answer.{Answer}
 use Rattle.words.specs.Answers.{done}
 use Rattle.wire.specs.Wire.{Clean}
-use Rattle.table.specs.Table.{widths}
-use Rattle.table.specs.Widths.{widths-none}
+use Rattle.probes.specs.Table.{widths}
+use Rattle.probes.specs.Widths.{widths-none}
 use Rattle.stack.specs.FirstFit.{Outcome, placed}
 use Rattle.stack.specs.Planning.{fit, fit-holds}
-use Rattle.table.specs.Laws.{sound-gives}
-use Rattle.table.specs.Widths.{sound-positive}
+use Rattle.probes.specs.Laws.{sound-gives}
+use Rattle.probes.specs.Widths.{sound-positive}
 use Rattle.rectangles.specs.Plan.{Plans}
 use Rattle.rectangles.specs.Ends.{silent-plan}
 use Rattle.rectangles.proofs.Promises.{plan-below, plan-clean}

@@ -14,8 +14,8 @@ use lib.ListN.{length, getD, set, drop, replicate}
 use Rattle.lists.specs.Pick.{pick}
 use Rattle.lists.specs.Refusals.{Silents, whole, first-rest}
 use Rattle.words.specs.Answers.{refused, done}
-use Rattle.table.specs.Table.{Sound, lines, Differ, rows, height, widths}
-use Rattle.table.specs.Widths.{widths-none}
+use Rattle.probes.specs.Table.{Sound, lines, Differ, rows, height, widths}
+use Rattle.probes.specs.Widths.{widths-none}
 use Rattle.order.specs.Order.{order}
 use Rattle.stack.specs.Stack.{raised, bins}
 use Rattle.stack.specs.FirstFit.{Outcome, outcome, marked, binOf, startIn, fitted, planLines, refusedPlan, placed}

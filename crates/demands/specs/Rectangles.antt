@@ -15,11 +15,11 @@ use Rattle.lists.specs.Harmonic.{Harmonic}
 use Rattle.lists.specs.Refusals.{Silents, line, whole, first-rest}
 use Rattle.lists.specs.Counted.{counted, length-counted, counted-at, filled}
 use Rattle.words.specs.Answers.{done}
-use Rattle.table.specs.Table.{Sound, lines, lateLine, DifferThree}
-use Rattle.table.specs.Laws.{sound-gives}
+use Rattle.probes.specs.Table.{Sound, lines, lateLine, DifferThree}
+use Rattle.probes.specs.Laws.{sound-gives}
 use Rattle.chain.specs.Corners.{cornerX, cornerY, startOf, OffGrid}
 use Rattle.chain.specs.CornerLaws.{OnGrid, grid-sound, grid-complete, corner-on-grid, start-of-corner, start-below, corner-of-start}
-use Rattle.grid.specs.Grid.{xAt, yAt, startAt, OffGridAt}
+use Rattle.chain.specs.Grid.{xAt, yAt, startAt, OffGridAt}
 use Rattle.rectangles.specs.Converting.{Corners, corners, cornerLines, refusedCorners, doneCorners, ToCorners, Starts, asStarts, DifferFour, startLines, refusedStarts, doneStarts, ToStarts}
 use Rattle.rectangles.specs.Sound.{silents-append}
 

@@ -2,7 +2,7 @@
 ghost use mathlib.Core.Path.{_≡_};
 ghost use mathlib.Core.List.{reverse};
 ghost use Prim.Native.Nat.{_≤_};
-ghost use Rattle.table.specs.Table.{mostRows};
+ghost use Rattle.probes.specs.Table.{mostRows};
 ghost use Rattle.chain.specs.Digits.{product, digits, AllPositive, Digits};
 ghost use Rattle.chain.specs.Values.{valueOf};
 ghost use Rattle.chain.specs.Ratios.{mostRatios};

@@ -2,7 +2,7 @@
 ghost use mathlib.Core.Path.{_≡_};
 ghost use Prim.Native.Nat.{_≤_};
 ghost use lib.ListN.{length};
-ghost use Rattle.table.specs.Table.{mostProbes};
+ghost use Rattle.probes.specs.Table.{mostProbes};
 ghost use Rattle.text.specs.Putting.{Put};
 ghost use Rattle.paper.specs.Printed.{ran, planText, plannedIn};
 ghost use Rattle.paper.specs.Paper.{mostPlan};
@@ -27,7 +27,7 @@ pub fn put_plan(out: &mut [u8], periods: &[u32], lengths: &[u32]) -> usize
 {
     let mut starts = [0u32; Table::PROBES];
     let mut fills = [0u32; Table::ROWS as usize];
-    let answer = planning::plan(periods, lengths, &mut starts, &mut fills);
+    let answer = packing::plan(periods, lengths, &mut starts, &mut fills);
     let number = answer.number;
     if ran(number) {
         let table = Table::of(periods);

@@ -1,7 +1,9 @@
-// The limits of the book that the first edition fixes.
+// The book's limits that the first edition fixes, the numbers in its bytes, and how many blocks and records there are.
 ghost use mathlib.Core.Path.{_≡_};
-ghost use Rattle.sheets.specs.Bytes.{byteValues};
-ghost use Rattle.sheets.specs.Layout.{firstEdition, blockBytes, headBytes, sumPlace, sumPlace2, mostN};
+ghost use Rattle.sheets.specs.Bytes.{byteValues, word};
+ghost use Rattle.sheets.specs.Layout.{firstEdition, blockBytes, headBytes, sumPlace, sumPlace2, mostN, blocksOf, recordsOf};
+ghost use Prim.Native.Nat.{_+_, _*_, _≤_, _-_, _<_};
+ghost use lib.ListN.{length};
 
 // The book: its constants are what the first edition fixes.
 pub struct Book {}
@@ -82,4 +84,51 @@ impl Book {
     {
         Book::PROBES
     }
+}
+
+// The number in the two bytes at a place.
+pub fn two(book: &[u8], at: usize) -> usize
+    requires { ⌜ at + 2 ≤ length (now book) ⌝ }
+    ensures { λ r. ⌜ r ≡ word 2 at (now (book .entry)) ⌝ }
+{
+    let low = book[at] as usize;
+    let high = book[at + 1] as usize;
+    low + Book::BYTE * high
+}
+
+// The number in the four bytes at a place.
+pub fn four(book: &[u8], at: usize) -> u32
+    requires { ⌜ at + 4 ≤ length (now book) ⌝ }
+    ensures { λ r. ⌜ r ≡ word 4 at (now (book .entry)) ⌝ }
+{
+    let byte = Book::BYTE as u32;
+    let low = book[at] as u32;
+    let second = book[at + 1] as u32;
+    let third = book[at + 2] as u32;
+    let high = book[at + 3] as u32;
+    low + byte * (second + byte * (third + byte * high))
+}
+
+// How many blocks n probes take.
+pub fn blocks_of(n: usize) -> usize
+    requires { ⌜ n ≤ mostN ⌝ }
+    ensures { λ r. ⌜ r ≡ blocksOf firstEdition n ⌝ }
+{
+    if n == 0 {
+        return 1;
+    }
+    (n + (Book::RECORDS - 1)) / Book::RECORDS
+}
+
+// How many records block b holds.
+pub fn records_of(n: usize, b: usize) -> usize
+    requires { ⌜ n ≤ mostN ⌝ }
+    requires { ⌜ b < blocksOf firstEdition n ⌝ }
+    ensures { λ r. ⌜ r ≡ recordsOf firstEdition n b ⌝ }
+{
+    let blocks = blocks_of(n);
+    if b + 1 < blocks {
+        return Book::RECORDS;
+    }
+    n - b * Book::RECORDS
 }

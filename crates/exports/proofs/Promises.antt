@@ -17,7 +17,7 @@ use Rattle.lists.specs.Refusals.{Silents, whole, First, first-unique, first-num
 use Rattle.words.specs.declared.Answer.{Answer}
 use Rattle.words.specs.Answers.{refused}
 use Rattle.words.specs.Ticks.{TooLate}
-use Rattle.table.specs.Table.{widths}
+use Rattle.probes.specs.Table.{widths}
 use Rattle.sheets.specs.Layout.{firstEdition, mostN}
 use Rattle.volumes.specs.Reading.{nOf, column, Columns, Reads}
 use Rattle.sheets.specs.Loading.{length-column}

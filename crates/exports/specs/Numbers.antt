@@ -11,7 +11,7 @@ use Rattle.lists.specs.Pick.{In}
 use Rattle.lists.specs.Refusals.{Line, line, whole, numbers, First, first-numbers}
 use Rattle.words.specs.declared.Answer.{Answer}
 use Rattle.words.specs.Answers.{refused}
-use Rattle.table.specs.Table.{mostProbes, mostRows, rows, BadPeriod, BadLength, Unchained, lateLine, listLines}
+use Rattle.probes.specs.Table.{mostProbes, mostRows, rows, BadPeriod, BadLength, Unchained, lateLine, listLines}
 
 pub list-numbers : (Ts ps ss : List ℕ) (ms : List Line) (Rest : Answer → Type 0) (a : Answer) → length Ts ≡ length ps → length Ts ≡ length ss → length Ts ≤ mostProbes
     → First (listLines Ts ps ss ++ ms) refused Rest a → In (a .number) (3 ∷ 4 ∷ 5 ∷ 6 ∷ 9 ∷ numbers ms) ⊎ Rest a

@@ -16,8 +16,8 @@ pub fn put_head(block: &mut [u8], n: usize, b: usize)
     requires { ⌜ b < blocksOf firstEdition n ⌝ }
     ensures { λ r. ⌜ now (block .exit) ≡ sets (now (block .entry)) 0 (headOf firstEdition n b) ⌝ }
 {
-    let blocks = counts::blocks_of(n);
-    let records = counts::records_of(n, b);
+    let blocks = edition::blocks_of(n);
+    let records = edition::records_of(n, b);
     put2(block, 0, b);
     put2(block, 2, blocks);
     put2(block, 4, records);

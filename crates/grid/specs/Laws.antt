@@ -1,5 +1,4 @@
 -- LAWS OF THE CONVERSIONS, for the code that computes them.
---     off-grid-tells        the test of number 18
 --     on-grid-of            a corner that the test lets through is on the grid
 --     Prepared gives ..     w and the heights are at least 1, slots and rows are in range
 -- Assumes nothing.
@@ -15,9 +14,9 @@ use lib.ListN.{length, getD}
 use Rattle.lists.specs.Pick.{Tells, either}
 use Rattle.lists.specs.Telling.{tells-either, tells-not, tells-le, tells-divides, tells-true, tells-false}
 use Rattle.table.specs.declared.Table.{Table}
-use Rattle.table.specs.Table.{mostPeriod, mostRows, shortest, longest, rows, height, Sound}
-use Rattle.table.specs.Laws.{sound-gives}
-use Rattle.table.specs.Heights.{shortest-positive, height-positive, rows-slots, slots-times}
+use Rattle.probes.specs.Table.{mostPeriod, mostRows, shortest, longest, rows, height, Sound}
+use Rattle.probes.specs.Laws.{sound-gives}
+use Rattle.probes.specs.Heights.{shortest-positive, height-positive, rows-slots, slots-times}
 use Rattle.flipping.specs.declared.Chain.{Chain}
 use Rattle.chain.specs.Flip.{flip, unflip}
 use Rattle.chain.specs.Flip.Laws.{flip-below}
@@ -26,14 +25,8 @@ use Rattle.chain.specs.RatioLaws.{ratios-level, ratios-positive}
 use Rattle.chain.specs.Slotted.{Slotted, chain-slotted, chain-flip, chain-unflip}
 use Rattle.chain.specs.Corners.{cornerX, cornerY, startOf, OffGrid}
 use Rattle.chain.specs.CornerLaws.{OnGrid, grid-complete, start-below}
-use Rattle.grid.specs.Grid.{tableOf, chainOf, Prepared, OffGridAt, offGrid}
-
-pub off-grid-tells : (Ts xs ys : List ℕ) (i : ℕ) → Tells (offGrid Ts xs ys i) (OffGridAt Ts xs ys i)
-unfolding offGrid
-off-grid-tells Ts xs ys i =
-    tells-either (leb (shortest Ts) (getD xs i 0)) _ (tells-le (shortest Ts) (getD xs i 0))
-    (tells-either (not (eqb (getD ys i 0 % height Ts (getD Ts i 0)) 0)) (leb (rows Ts) (getD ys i 0))
-    (tells-not (eqb (getD ys i 0 % height Ts (getD Ts i 0)) 0) (tells-divides (height Ts (getD Ts i 0)) (getD ys i 0))) (tells-le (rows Ts) (getD ys i 0)))
+use Rattle.grid.specs.Prepared.{tableOf, chainOf, Prepared}
+use Rattle.chain.specs.Grid.{OffGridAt, offGrid, off-grid-tells}
 
 module _ (Ts : List ℕ) (t : Table) (c : Chain) (p : Prepared Ts t c) where
   pub shortest-is : t .shortest ≡ shortest Ts

@@ -4,7 +4,7 @@ ghost use Prim.Native.Nat.{_<_};
 ghost use lib.ListN.{length, getD};
 ghost use Rattle.chain.specs.Corners.{cornerX, cornerY, startOf};
 ghost use Rattle.chain.specs.CornerLaws.{OnGrid};
-ghost use Rattle.grid.specs.Grid.{Prepared};
+ghost use Rattle.grid.specs.Prepared.{Prepared};
 use flipping::Chain;
 use table::Table;
 

@@ -17,11 +17,11 @@ use Rattle.words.specs.declared.Answer.{Answer}
 use Rattle.words.specs.Answers.{refused, pair, mark}
 use Rattle.words.specs.Ticks.{lastTick}
 use Rattle.wire.specs.Wire.{HoldsAt}
-use Rattle.table.specs.Table.{widths, shortest, longest, rows, greatestOf}
-use Rattle.table.specs.Verdict.{findings, verdict}
-use Rattle.table.specs.Laws.{sound-gives, passes-sound}
+use Rattle.probes.specs.Table.{widths, shortest, longest, rows, greatestOf}
+use Rattle.probes.specs.Verdict.{findings, verdict}
+use Rattle.probes.specs.Laws.{sound-gives, passes-sound}
 use Rattle.hours.specs.Timetable.{askLines, HeldBy, Holder, IsNextStart, NextStart, NextFrom, candidate}
-use Rattle.table.specs.Widths.{widths-none}
+use Rattle.probes.specs.Widths.{widths-none}
 use Rattle.hours.specs.Asking.{Asked, asked-silent}
 use Rattle.hours.specs.HolderLaws.{held-unique}
 use Rattle.hours.specs.NextLaws.{next-unique, candidate-from, candidate-starts}

@@ -19,11 +19,11 @@ use Rattle.lists.specs.Answering.{tested, firstOf, first-of-append, AllFind, al
 use Rattle.words.specs.declared.Answer.{Answer}
 use Rattle.words.specs.Answers.{refused, done}
 use Rattle.words.specs.Ticks.{lastTick, TooLate, tooLate}
-use Rattle.table.specs.Table.{mostProbes, widths, Sound, listLines}
-use Rattle.table.specs.Verdict.{listFindings}
-use Rattle.table.specs.Laws.{sound-gives}
-use Rattle.table.specs.Composing.{Numbered, numbered-append, listVerdict, list-find, list-numbered, compose-done, compose-refused, refusal-is}
-use Rattle.table.specs.Passed.{silent-if, silents-left, silents-right, silents-append, silent-passes, passes-silent, below-of, at-most}
+use Rattle.probes.specs.Table.{mostProbes, widths, Sound, listLines}
+use Rattle.probes.specs.Verdict.{listFindings}
+use Rattle.probes.specs.Laws.{sound-gives}
+use Rattle.probes.specs.Composing.{Numbered, numbered-append, listVerdict, list-find, list-numbered, compose-done, compose-refused, refusal-is}
+use Rattle.probes.specs.Passed.{silent-if, silents-left, silents-right, silents-append, silent-passes, passes-silent, below-of, at-most}
 use Rattle.hours.specs.Timetable.{askLines, askFindings}
 
 unfoldable pub askVerdict : List ℕ → List ℕ → List ℕ → ℕ → Answer

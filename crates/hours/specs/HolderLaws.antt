@@ -17,9 +17,9 @@ use Rattle.words.specs.declared.Answer.{Answer}
 use Rattle.words.specs.Answers.{refused, mark}
 use Rattle.wire.specs.Wire.{HoldsAt}
 use Rattle.wire.specs.Window.{holds, holds-tells}
-use Rattle.table.specs.Table.{widths}
+use Rattle.probes.specs.Table.{widths}
 use Rattle.hours.specs.Timetable.{askLines, askFindings, phase, HeldBy, holdsTest, holderOf, Holder, holderAnswer}
-use Rattle.table.specs.Widths.{widths-none}
+use Rattle.probes.specs.Widths.{widths-none}
 use Rattle.hours.specs.Asking.{askVerdict, ask-find, ask-refused, ask-passed}
 
 module _ (Ts qs ss : List ℕ) (t : ℕ) where

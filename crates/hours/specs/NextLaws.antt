@@ -19,7 +19,7 @@ use borrow.Author.Tests.{le-leb, lt-leb, lt-ltb, eq-eqb, ne-eqb}
 use Rattle.lists.specs.Answering.{first-of}
 use Rattle.words.specs.declared.Answer.{Answer}
 use Rattle.words.specs.Answers.{refused, pair, mark}
-use Rattle.table.specs.Laws.{sound-gives}
+use Rattle.probes.specs.Laws.{sound-gives}
 use Rattle.moments.specs.Laws.{candidate-now, candidate-here, candidate-later}
 use Rattle.hours.specs.Timetable.{askLines, askFindings, Starts, IsNextStart, NextStart, NextFrom, phase, candidate, nextOf, nextAnswer}
 use Rattle.hours.specs.Asking.{askVerdict, silent-asked, ask-find, ask-refused, ask-passed}

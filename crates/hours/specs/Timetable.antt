@@ -26,8 +26,8 @@ use Rattle.words.specs.declared.Answer.{Answer}
 use Rattle.words.specs.Answers.{refused, pair, mark}
 use Rattle.words.specs.Ticks.{TooLate, tooLate}
 use Rattle.wire.specs.Wire.{HoldsAt}
-use Rattle.table.specs.Table.{widths, listLines}
-use Rattle.table.specs.Verdict.{listFindings}
+use Rattle.probes.specs.Table.{widths, listLines}
+use Rattle.probes.specs.Verdict.{listFindings}
 unfoldable pub use Rattle.moments.specs.Moments.{phase, candidate}
 
 abbrev pub askLines : List ℕ → List ℕ → List ℕ → ℕ → List Line

@@ -13,11 +13,11 @@ fn wrong_sum(block: &[u8]) -> bool
     ensures { λ r. ⌜ r ≡ wrongSum (now (block .entry)) ⌝ }
 {
     let sum = sums::byte_sum(block);
-    if numerals::four(block, Book::SUMS) != sum {
+    if edition::four(block, Book::SUMS) != sum {
         return true;
     }
     let sum2 = sums::place_sum(block);
-    numerals::four(block, Book::SUMS2) != sum2
+    edition::four(block, Book::SUMS2) != sum2
 }
 
 // 22: n is above 256, or a field of bytes 0 to 11 is not what the size and n require.
@@ -29,23 +29,23 @@ fn wrong_field(block: &[u8], n: usize, blocks: usize, b: usize) -> bool
     if Book::PROBES < n {
         return true;
     }
-    if counts::blocks_of(n) != blocks {
+    if edition::blocks_of(n) != blocks {
         return true;
     }
-    if numerals::two(block, 0) != b {
+    if edition::two(block, 0) != b {
         return true;
     }
-    if numerals::two(block, 2) != blocks {
+    if edition::two(block, 2) != blocks {
         return true;
     }
-    let records = counts::records_of(n, b);
-    if numerals::two(block, 4) != records {
+    let records = edition::records_of(n, b);
+    if edition::two(block, 4) != records {
         return true;
     }
-    if numerals::two(block, 6) != n {
+    if edition::two(block, 6) != n {
         return true;
     }
-    if numerals::four(block, 8) != 0 {
+    if edition::four(block, 8) != 0 {
         return true;
     }
     false
@@ -58,7 +58,7 @@ fn used_unused(block: &[u8], n: usize, b: usize) -> bool
     requires { ⌜ b < blocksOf firstEdition n ⌝ }
     ensures { λ r. ⌜ r ≡ usedUnused firstEdition n b (now (block .entry)) ⌝ }
 {
-    let records = counts::records_of(n, b);
+    let records = edition::records_of(n, b);
     !sums::all_zero(block, Book::HEAD + records * Book::RECORD)
 }
 

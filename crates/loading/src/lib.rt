@@ -28,7 +28,7 @@ pub fn judge_blocks(book: &[u8]) -> Answer
     requires { ⌜ badSize firstEdition (now book) ≡ false ⌝ }
     ensures { λ r. ⌜ r ≡ judgedBlocks firstEdition (now (book .entry)) ⌝ }
 {
-    let n = numerals::two(book, 6);
+    let n = edition::two(book, 6);
     let blocks = book.len() / Book::BLOCK;
     let mut b = 0;
     while b < blocks {
@@ -55,7 +55,7 @@ pub fn load(book: &[u8], f: usize, n: usize, into: &mut [u32])
     while i < n {
         let block = i / Book::RECORDS * Book::BLOCK;
         let record = i % Book::RECORDS * Book::RECORD;
-        into[i] = numerals::four(book, block + Book::HEAD + record + f * 4);
+        into[i] = edition::four(book, block + Book::HEAD + record + f * 4);
         i += 1;
     }
 }

@@ -14,10 +14,10 @@ use Rattle.words.specs.declared.Answer.{Answer}
 use Rattle.words.specs.Answers.{refused, done, mark}
 use Rattle.wire.specs.Wire.{Clean, HoldsAt}
 use Rattle.wire.specs.Window.{heldIn, window, clean-alone}
-use Rattle.table.specs.Table.{widths, Sound, Late, lateLine, lines, DifferThree, listLines}
-use Rattle.table.specs.Laws.{sound-gives, mark-late}
+use Rattle.probes.specs.Table.{widths, Sound, Late, lateLine, lines, DifferThree, listLines}
+use Rattle.probes.specs.Laws.{sound-gives, mark-late}
 use Rattle.meetings.specs.Check.{Judged, Checks, checked}
-use Rattle.table.specs.Widths.{widths-none}
+use Rattle.probes.specs.Widths.{widths-none}
 use Rattle.meetings.specs.Passing.{Passes, silent-passes, passes-silent, passes-gives, sound-silent}
 use Rattle.meetings.specs.Laws.{judged-unique, checked-meets}
 

@@ -23,8 +23,8 @@ use Rattle.words.specs.Answers.{refused, done, pair}
 use Rattle.wire.specs.Wire.{Clean}
 use Rattle.wire.specs.Meeting.{apartAt, tickAt}
 use Rattle.wire.specs.CleanTest.{NeverMeetAt, FirstSharedAt}
-use Rattle.table.specs.Table.{widths, listLines}
-use Rattle.table.specs.Verdict.{listFindings}
+use Rattle.probes.specs.Table.{widths, listLines}
+use Rattle.probes.specs.Verdict.{listFindings}
 
 module _ (Ts qs ss : List ℕ) where
   pub record Meets (i j t : ℕ) : Type 0 where

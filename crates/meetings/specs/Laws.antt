@@ -24,12 +24,12 @@ use Rattle.wire.specs.Wire.{Clean}
 use Rattle.wire.specs.Meeting.{apartAt, tickAt}
 use Rattle.wire.specs.FirstShared.{first-shared-unique}
 use Rattle.wire.specs.CleanTest.{NeverMeetAt, clean-pairs, apart-at-tells, tick-at-first}
-use Rattle.table.specs.Table.{widths, listLines}
-use Rattle.table.specs.Verdict.{listFindings}
-use Rattle.table.specs.Laws.{sound-gives}
-use Rattle.table.specs.Composing.{listVerdict, list-find, list-numbered, compose-done, compose-refused, refusal-is}
+use Rattle.probes.specs.Table.{widths, listLines}
+use Rattle.probes.specs.Verdict.{listFindings}
+use Rattle.probes.specs.Laws.{sound-gives}
+use Rattle.probes.specs.Composing.{listVerdict, list-find, list-numbered, compose-done, compose-refused, refusal-is}
 use Rattle.meetings.specs.Check.{Meets, Judged, partner, opener, meetingOf, Checks, checked}
-use Rattle.table.specs.Widths.{widths-none}
+use Rattle.probes.specs.Widths.{widths-none}
 use Rattle.meetings.specs.Passing.{Passes, passes-gives, silent-passes}
 
 module _ (Ts qs ss : List ℕ) where

@@ -10,8 +10,8 @@ use mathlib.Core.List.{List}
 use Prim.Native.Nat.{ℕ, _≤_, _<_}
 use lib.ListN.{length, getD}
 use Rattle.wire.specs.Meeting.{apart, sharedTick}
-use Rattle.table.specs.Table.{mostPeriod}
-use Rattle.table.specs.Passed.{Passes}
+use Rattle.probes.specs.Table.{mostPeriod}
+use Rattle.probes.specs.Passed.{Passes}
 use Rattle.pairs.specs.declared.Probe.{Probe}
 use Rattle.pairs.specs.Range.{passes-gives}
 

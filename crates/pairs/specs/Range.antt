@@ -5,10 +5,10 @@ use mathlib.Core.List.{List}
 use Prim.Native.Nat.{ℕ, _≤_, _<_}
 use native.Mathlib.Omega.{arith}
 use lib.ListN.{length, getD}
-use Rattle.table.specs.Table.{mostPeriod}
-use Rattle.table.specs.Laws.{sound-gives}
-use Rattle.table.specs.Extremes.{shortest-least}
-use Rattle.table.specs.Passed.{Passes, below-of}
+use Rattle.probes.specs.Table.{mostPeriod}
+use Rattle.probes.specs.Laws.{sound-gives}
+use Rattle.probes.specs.Extremes.{shortest-least}
+use Rattle.probes.specs.Passed.{Passes, below-of}
 
 module _ (Ts ps ss : List ℕ) where
   pub record InRange (i : ℕ) : Type 0 where

@@ -3,8 +3,8 @@ ghost use mathlib.Core.Path.{_≡_};
 ghost use Prim.Native.Nat.{_≤_, _<_};
 ghost use lib.ListN.{length};
 ghost use Rattle.wire.specs.Meeting.{lag, apartAt, tickAt};
-ghost use Rattle.table.specs.Table.{mostPeriod};
-ghost use Rattle.table.specs.Passed.{Passes};
+ghost use Rattle.probes.specs.Table.{mostPeriod};
+ghost use Rattle.probes.specs.Passed.{Passes};
 ghost use Rattle.pairs.specs.Probes.{probeAt, Ordered, apartOf, tickOf};
 
 // d: the remainder of u - s by t, from 0 up.

@@ -21,7 +21,7 @@ use Rattle.lists.specs.Telling.{tells-true}
 use Rattle.lists.specs.Refusals.{Silents, first-unique, first-numbers}
 use Rattle.words.specs.declared.Answer.{Answer}
 use Rattle.words.specs.Answers.{refused}
-use Rattle.table.specs.Table.{mostProbes, mostRows}
+use Rattle.probes.specs.Table.{mostProbes, mostRows}
 use Rattle.sheets.specs.Layout.{firstEdition, blockBytes, mostN}
 use Rattle.volumes.specs.Reading.{badSize, Columns, columns, Reads, readOf}
 use Rattle.volumes.specs.ReadLaws.{read-size}

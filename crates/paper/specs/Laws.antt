@@ -25,8 +25,8 @@ use Rattle.lists.specs.Telling.{true-or-false}
 use Rattle.lists.specs.Refusals.{First}
 use Rattle.words.specs.declared.Answer.{Answer}
 use Rattle.words.specs.Answers.{refused}
-use Rattle.table.specs.Table.{mostProbes, mostRows, rows}
-use Rattle.table.specs.Laws.{sound-gives}
+use Rattle.probes.specs.Table.{mostProbes, mostRows, rows}
+use Rattle.probes.specs.Laws.{sound-gives}
 use Rattle.stack.specs.FirstFit.{Outcome, outcome, planned}
 use Rattle.rectangles.specs.Plan.{Plans}
 use Rattle.rectangles.specs.Checks.{planned-meets}

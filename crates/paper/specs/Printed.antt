@@ -12,7 +12,7 @@ use Prim.Native.Nat.{ℕ}
 use lib.Dec.{eqb}
 use lib.ListN.{length, replicate}
 use Rattle.lists.specs.Pick.{pick, either}
-use Rattle.table.specs.Table.{mostProbes, mostRows, rows}
+use Rattle.probes.specs.Table.{mostProbes, mostRows, rows}
 use Rattle.stack.specs.FirstFit.{Outcome, planned}
 use Rattle.questions.specs.declared.Question.the-variants.{IsClean}
 use Rattle.questions.specs.Replies.{periodsIn, lengthsIn, readIn, replyOf}

@@ -14,9 +14,9 @@ use lib.ListN.{length, getD, set}
 use borrow.Author.Tests.{lt-ltb, le-ltb}
 use Rattle.lists.specs.Lowest.{Lowest}
 use Rattle.table.specs.declared.Table.{Table}
-use Rattle.table.specs.Table.{mostPeriod, mostRows, shortest, height}
-use Rattle.table.specs.Extremes.{shortest-least}
-use Rattle.table.specs.Heights.{height-positive, rows-slots, slots-times}
+use Rattle.probes.specs.Table.{mostPeriod, mostRows, shortest, height}
+use Rattle.probes.specs.Extremes.{shortest-least}
+use Rattle.probes.specs.Heights.{height-positive, rows-slots, slots-times}
 use Rattle.flipping.specs.declared.Chain.{Chain}
 use Rattle.chain.specs.CornerLaws.{OnGrid}
 use Rattle.stack.specs.Stack.{raised, Fits, bins, lowestBin}

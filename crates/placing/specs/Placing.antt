@@ -9,9 +9,9 @@ use Prim.Native.Nat.{ℕ, _+_, _*_, _≤_, _<_}
 use lib.Dec.{ltb}
 use lib.ListN.{length, getD, set}
 use Rattle.table.specs.declared.Table.{Table}
-use Rattle.table.specs.Table.{mostPeriod, shortest, rows, height}
+use Rattle.probes.specs.Table.{mostPeriod, shortest, rows, height}
 use Rattle.flipping.specs.declared.Chain.{Chain}
-use Rattle.grid.specs.Grid.{Prepared}
+use Rattle.grid.specs.Prepared.{Prepared}
 use Rattle.stack.specs.Stack.{raised, bins}
 use Rattle.stack.specs.FirstFit.{binOf, startIn}
 

@@ -22,9 +22,9 @@ use Rattle.lists.specs.Counted.{filled, counted, length-counted, counted-at}
 use Rattle.words.specs.declared.Answer.{Answer}
 use Rattle.words.specs.Answers.{refused, done, mark}
 use Rattle.wire.specs.Wire.{Clean, CleanAmong}
-use Rattle.table.specs.Table.{Sound, lines, Differ, rows, height, widths}
-use Rattle.table.specs.Laws.{Soundness, sound-gives}
-use Rattle.table.specs.Widths.{widths-none, sound-positive}
+use Rattle.probes.specs.Table.{Sound, lines, Differ, rows, height, widths}
+use Rattle.probes.specs.Laws.{Soundness, sound-gives}
+use Rattle.probes.specs.Widths.{widths-none, sound-positive}
 use Rattle.chain.specs.Corners.{cornerX, cornerY, startOf}
 use Rattle.chain.specs.CornerLaws.{start-of-corner, corner-of-start}
 use Rattle.order.specs.Order.{order}
@@ -34,7 +34,7 @@ use Rattle.stack.specs.Room.{Room}
 use Rattle.stack.specs.Follows.{Follows, follows-fitted, follows-unique}
 use Rattle.stack.specs.Eight.{StopsAt, eight-sound, eight-complete}
 use Rattle.stack.specs.Planning.{fit, fit-below, fit-clean, fit-placed-below, fit-placed-clean, fit-ends, fit-room}
-use Rattle.grid.specs.Grid.{xAt, yAt, startAt}
+use Rattle.chain.specs.Grid.{xAt, yAt, startAt}
 use Rattle.rectangles.specs.Converting.{Corners, corners, cornerLines, refusedCorners, doneCorners, ToCorners, Starts, asStarts, startLines, refusedStarts, doneStarts, ToStarts}
 use Rattle.rectangles.specs.Plan.{Plans}
 use Rattle.rectangles.specs.Sound.{silents-append}

@@ -13,7 +13,7 @@ use Rattle.lists.specs.Answering.{firstOf}
 use Rattle.lists.specs.Counted.{filled}
 use Rattle.words.specs.declared.Answer.{Answer}
 use Rattle.words.specs.Answers.{refused, done}
-use Rattle.grid.specs.Grid.{xAt, yAt, startAt}
+use Rattle.chain.specs.Grid.{xAt, yAt, startAt}
 pub use Rattle.admitting.specs.Admitting.{cornerLines, cornerLast, DifferFour, startLines, startLast}
 unfoldable pub use Rattle.admitting.specs.Admitting.{cornerFindings, startFindings}
 

@@ -16,12 +16,12 @@ use Rattle.lists.specs.Answering.{Found, firstOf}
 use Rattle.lists.specs.Counted.{filled}
 use Rattle.words.specs.declared.Answer.{Answer}
 use Rattle.words.specs.Answers.{refused, done}
-use Rattle.table.specs.Table.{Differ, DifferThree, lines, lateLine, Sound, rows, widths}
-use Rattle.table.specs.Widths.{widths-none}
-use Rattle.table.specs.Passed.{silent-if, silents-left, silents-right, sound-with, below-of, at-most, equal}
-use Rattle.table.specs.Composing.{Numbered, compose-done, compose-refused, refusal-is}
+use Rattle.probes.specs.Table.{Differ, DifferThree, lines, lateLine, Sound, rows, widths}
+use Rattle.probes.specs.Widths.{widths-none}
+use Rattle.probes.specs.Passed.{silent-if, silents-left, silents-right, sound-with, below-of, at-most, equal}
+use Rattle.probes.specs.Composing.{Numbered, compose-done, compose-refused, refusal-is}
 use Rattle.chain.specs.CornerLaws.{OnGrid, grid-complete}
-use Rattle.grid.specs.Grid.{xAt, yAt, startAt, OffGridAt}
+use Rattle.chain.specs.Grid.{xAt, yAt, startAt, OffGridAt}
 use Rattle.order.specs.Order.{order}
 use Rattle.stack.specs.FirstFit.{Outcome, outcome, fitted, planLines, planFindings, refusedPlan, placed, planned}
 use Rattle.rectangles.specs.Converting.{Corners, corners, cornerLines, cornerFindings, refusedCorners, doneCorners, ToCorners, cornersOf, DifferFour, Starts, asStarts, startLines, startFindings, refusedStarts, doneStarts, ToStarts, startsOf}

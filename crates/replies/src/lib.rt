@@ -11,7 +11,7 @@ fn ask(question: Question, periods: &[u32], lengths: &[u32], starts: &[u32]) -> 
     match question {
         Question::IsClean => checker::check(periods, lengths, starts),
         Question::HolderAt(tick) => {
-            let held = holding::holder(periods, lengths, starts, tick);
+            let held = timetable::holder(periods, lengths, starts, tick);
             held.answer
         }
         Question::StartFrom(tick) => upcoming::next_start(periods, lengths, starts, tick),
@@ -25,7 +25,7 @@ pub fn reply(book: &[u8], question: Question) -> Answer
     let mut periods = [0u32; Book::PROBES];
     let mut lengths = [0u32; Book::PROBES];
     let mut starts = [0u32; Book::PROBES];
-    let read = reading::read(book, &mut periods, &mut lengths, &mut starts);
+    let read = book::read(book, &mut periods, &mut lengths, &mut starts);
     let number = read.number;
     if number != 0 {
         return read;

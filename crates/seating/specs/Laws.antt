@@ -16,7 +16,7 @@ use lib.Seq.{drop-cons, getD-take}
 use borrow.Author.Tests.{lt-ltb, le-ltb, ltb-true, ltb-false}
 use Rattle.words.specs.declared.Answer.{Answer}
 use Rattle.words.specs.Answers.{refused, done, mark}
-use Rattle.table.specs.Table.{mostPeriod, rows, height}
+use Rattle.probes.specs.Table.{mostPeriod, rows, height}
 use Rattle.order.specs.Order.{order}
 use Rattle.order.specs.Listed.{order-length}
 use Rattle.stack.specs.Stack.{raised, bins}

@@ -13,8 +13,8 @@ use Rattle.lists.specs.Answering.{firstOf}
 use Rattle.words.specs.declared.Answer.{Answer}
 use Rattle.words.specs.Answers.{refused, done, pair, mark}
 use Rattle.wire.specs.Meeting.{lag, apart, sharedTick, apartAt, tickAt}
-use Rattle.table.specs.Table.{leastOf, greatestOf, shortest, longest, rows, widths}
-use Rattle.table.specs.Verdict.{divides, chained, badPeriod, badLength, unchained, late, findings, listFindings}
+use Rattle.probes.specs.Table.{leastOf, greatestOf, shortest, longest, rows, widths}
+use Rattle.probes.specs.Verdict.{divides, chained, badPeriod, badLength, unchained, late, findings, listFindings}
 use Rattle.meetings.specs.Check.{partner, opener, meetingOf, Checks, checked}
 use Rattle.meetings.specs.Laws.{checked-meets}
 use Rattle.meetings.proofs.Promises.{check-unique}

@@ -18,9 +18,9 @@ use Rattle.lists.specs.Counted.{counted}
 use Rattle.lists.specs.Harmonic.{Harmonic}
 use Rattle.words.specs.declared.Answer.{Answer}
 use Rattle.words.specs.Answers.{refused, done, pair, mark}
-use Rattle.table.specs.Table.{leastOf, greatestOf, shortest, longest, rows, height}
-use Rattle.table.specs.Verdict.{divides, chained, badPeriod, badLength, unchained, late, findings, verdict}
-use Rattle.table.specs.Laws.{passes-sound, sound-gives}
+use Rattle.probes.specs.Table.{leastOf, greatestOf, shortest, longest, rows, height}
+use Rattle.probes.specs.Verdict.{divides, chained, badPeriod, badLength, unchained, late, findings, verdict}
+use Rattle.probes.specs.Laws.{passes-sound, sound-gives}
 use Rattle.chain.specs.Flip.Laws.{flip-prefix}
 use Rattle.chain.specs.Ratios.{ratios}
 use Rattle.chain.specs.RatioLaws.{ratios-level, ratios-positive}

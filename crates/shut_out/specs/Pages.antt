@@ -15,8 +15,8 @@ use Rattle.lists.specs.Telling.{tells-both, tells-as}
 use Rattle.lists.specs.Answering.{firstOf}
 use Rattle.words.specs.Answers.{refused}
 use Rattle.wire.specs.Meeting.{lag, apart, sharedTick, apartAt, tickAt}
-use Rattle.table.specs.Table.{leastOf, greatestOf, shortest, longest, rows, widths}
-use Rattle.table.specs.Verdict.{divides, chained, badPeriod, badLength, unchained, late, findings, listFindings}
+use Rattle.probes.specs.Table.{leastOf, greatestOf, shortest, longest, rows, widths}
+use Rattle.probes.specs.Verdict.{divides, chained, badPeriod, badLength, unchained, late, findings, listFindings}
 use Rattle.sheets.specs.Bytes.{bytes, value, word, byteSum, placeSum, allZero}
 use Rattle.sheets.specs.Layout.{firstEdition, blocksOf, recordsOf}
 use Rattle.sheets.specs.Runs.{runFrom}

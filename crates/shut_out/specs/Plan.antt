@@ -17,10 +17,10 @@ use Rattle.lists.specs.Answering.{firstOf}
 use Rattle.words.specs.declared.Answer.{Answer}
 use Rattle.words.specs.Answers.{refused, done, mark}
 use Rattle.wire.specs.Wire.{Holds}
-use Rattle.table.specs.Table.{leastOf, greatestOf, shortest, longest, rows, height, widths}
-use Rattle.table.specs.Verdict.{divides, chained, badPeriod, badLength, unchained, findings, verdict}
-use Rattle.table.specs.Laws.{passes-sound, sound-gives}
-use Rattle.table.specs.Widths.{sound-positive}
+use Rattle.probes.specs.Table.{leastOf, greatestOf, shortest, longest, rows, height, widths}
+use Rattle.probes.specs.Verdict.{divides, chained, badPeriod, badLength, unchained, findings, verdict}
+use Rattle.probes.specs.Laws.{passes-sound, sound-gives}
+use Rattle.probes.specs.Widths.{sound-positive}
 use Rattle.order.specs.Order.{before, insert, orderBelow, order}
 use Rattle.stack.specs.Stack.{raised, fits, bins, lowestBin}
 use Rattle.stack.specs.FirstFit.{Outcome, outcome, marked, binOf, startIn, fitted, planFindings, placed, planned}

@@ -21,9 +21,9 @@ use Rattle.lists.specs.Answering.{firstOf}
 use Rattle.words.specs.declared.Answer.{Answer}
 use Rattle.words.specs.Answers.{refused, mark}
 use Rattle.wire.specs.CleanTest.{FirstSharedAt}
-use Rattle.table.specs.Table.{leastOf, greatestOf, shortest, longest, rows, height, widths, listLines}
-use Rattle.table.specs.Verdict.{divides, chained, badPeriod, badLength, unchained, findings}
-use Rattle.table.specs.Widths.{widths-none}
+use Rattle.probes.specs.Table.{leastOf, greatestOf, shortest, longest, rows, height, widths, listLines}
+use Rattle.probes.specs.Verdict.{divides, chained, badPeriod, badLength, unchained, findings}
+use Rattle.probes.specs.Widths.{widths-none}
 use Rattle.order.specs.Order.{before, insert, orderBelow, order}
 use Rattle.stack.specs.Stack.{raised, fits, bins, lowestBin}
 use Rattle.stack.specs.FirstFit.{Outcome, marked, binOf, startIn, fitted, planFindings, placed, planned}

@@ -18,12 +18,12 @@ use Rattle.lists.specs.Answering.{firstOf}
 use Rattle.lists.specs.Counted.{counted}
 use Rattle.words.specs.declared.Answer.{Answer}
 use Rattle.words.specs.Answers.{refused, done}
-use Rattle.table.specs.Table.{leastOf, greatestOf, shortest, longest, rows, height}
-use Rattle.table.specs.Verdict.{divides, chained, badPeriod, badLength, unchained, findings}
+use Rattle.probes.specs.Table.{leastOf, greatestOf, shortest, longest, rows, height}
+use Rattle.probes.specs.Verdict.{divides, chained, badPeriod, badLength, unchained, findings}
 use Rattle.chain.specs.Corners.{cornerY, startOf}
 use Rattle.chain.specs.CornerLaws.{grid-complete, corner-of-start}
-use Rattle.grid.specs.Grid.{offGrid}
-use Rattle.grid.specs.Laws.{off-grid-tells}
+use Rattle.chain.specs.Grid.{offGrid}
+use Rattle.chain.specs.Grid.{off-grid-tells}
 use Rattle.rectangles.specs.Converting.{Starts, asStarts, startFindings, doneStarts, ToStarts, startsOf}
 use Rattle.rectangles.specs.Checks.{starts-meet}
 use Rattle.rectangles.proofs.Promises.{to-starts-unique}

@@ -12,8 +12,8 @@ use Rattle.lists.specs.Answering.{firstOf}
 use Rattle.words.specs.declared.Answer.{Answer}
 use Rattle.words.specs.Answers.{refused, pair, mark}
 use Rattle.words.specs.Ticks.{lastTick}
-use Rattle.table.specs.Table.{leastOf, greatestOf, shortest, longest, rows, widths}
-use Rattle.table.specs.Verdict.{divides, chained, badPeriod, badLength, unchained, late, findings, listFindings}
+use Rattle.probes.specs.Table.{leastOf, greatestOf, shortest, longest, rows, widths}
+use Rattle.probes.specs.Verdict.{divides, chained, badPeriod, badLength, unchained, late, findings, listFindings}
 use Rattle.hours.specs.Timetable.{askFindings, phase, holdsTest, holderOf, Holder, holderAnswer, candidate, nextOf, NextFrom, nextAnswer}
 use Rattle.hours.specs.HolderLaws.{holder-meets}
 use Rattle.hours.specs.NextLaws.{next-meets}

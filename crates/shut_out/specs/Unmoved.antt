@@ -13,9 +13,9 @@ use Rattle.lists.specs.Pick.{anyBelow}
 use Rattle.lists.specs.Lowest.{lowest, lowestFrom}
 use Rattle.lists.specs.Answering.{firstOf}
 use Rattle.wire.specs.Wire.{Clean}
-use Rattle.table.specs.Table.{leastOf, greatestOf, shortest, longest, rows}
-use Rattle.table.specs.Verdict.{divides, chained, badPeriod, badLength, unchained, late, findings, listFindings}
-use Rattle.table.specs.Composing.{listVerdict}
+use Rattle.probes.specs.Table.{leastOf, greatestOf, shortest, longest, rows}
+use Rattle.probes.specs.Verdict.{divides, chained, badPeriod, badLength, unchained, late, findings, listFindings}
+use Rattle.probes.specs.Composing.{listVerdict}
 use Rattle.chain.specs.Corners.{cornerX}
 use Rattle.stack.specs.Packing.{Inside, NoOverlap}
 use Rattle.meetings.specs.Passing.{Passes, zero-passes}

@@ -13,9 +13,9 @@ use Rattle.lists.specs.Lowest.{lowest, lowestFrom}
 use Rattle.lists.specs.Answering.{firstOf}
 use Rattle.words.specs.declared.Answer.{Answer}
 use Rattle.words.specs.Answers.{refused, done}
-use Rattle.table.specs.Table.{leastOf, greatestOf, shortest, longest, rows}
-use Rattle.table.specs.Verdict.{divides, chained, badPeriod, badLength, unchained, findings, verdict, Validates}
-use Rattle.table.specs.Laws.{verdict-meets}
+use Rattle.probes.specs.Table.{leastOf, greatestOf, shortest, longest, rows}
+use Rattle.probes.specs.Verdict.{divides, chained, badPeriod, badLength, unchained, findings, verdict, Validates}
+use Rattle.probes.specs.Laws.{verdict-meets}
 use Rattle.table.proofs.Promises.{validate-unique}
 use Rattle.shut_out.specs.Claims.{Claim, claim, Each, Settled, sameAnswer, same-answer-tells, all-settled}
 

@@ -17,7 +17,7 @@ use Rattle.lists.specs.Pick.{pick}
 use Rattle.lists.specs.Lowest.{Lowest}
 use Rattle.words.specs.declared.Answer.{Answer}
 use Rattle.words.specs.Answers.{refused, done}
-use Rattle.table.specs.Table.{shortest, height}
+use Rattle.probes.specs.Table.{shortest, height}
 use Rattle.stack.specs.Stack.{raised, Fits, bins}
 use Rattle.stack.specs.FirstFit.{Outcome, outcome, marked, binOf, startIn, fitted}
 use Rattle.stack.specs.Fitting.{lowest-bin}

@@ -20,8 +20,8 @@ use Rattle.lists.specs.Refusals.{Line, whole}
 use Rattle.lists.specs.Answering.{Found, tested, firstOf}
 use Rattle.words.specs.declared.Answer.{Answer}
 use Rattle.words.specs.Answers.{refused, done, mark}
-use Rattle.table.specs.Table.{shortest, rows, height, widths, lines, Differ}
-use Rattle.table.specs.Verdict.{findings}
+use Rattle.probes.specs.Table.{shortest, rows, height, widths, lines, Differ}
+use Rattle.probes.specs.Verdict.{findings}
 use Rattle.chain.specs.Corners.{startOf}
 use Rattle.order.specs.Order.{order}
 use Rattle.stack.specs.Stack.{raised, bins, lowestBin}

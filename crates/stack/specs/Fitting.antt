@@ -23,7 +23,7 @@ use Rattle.lists.specs.Sums.{sumOf}
 use Rattle.lists.specs.Harmonic.{Harmonic, Positive}
 use Rattle.words.specs.declared.Answer.{Answer}
 use Rattle.words.specs.Answers.{refused, done, mark}
-use Rattle.table.specs.Table.{shortest, rows, height}
+use Rattle.probes.specs.Table.{shortest, rows, height}
 use Rattle.order.specs.Order.{Before, order}
 use Rattle.order.specs.Listed.{order-length, order-probe, order-sorted, order-apart}
 use Rattle.stack.specs.Stack.{raised, Fits, fits, bins, lowestBin}

@@ -20,7 +20,7 @@ use borrow.Author.Tests.{ltb-true, ltb-false, lt-ltb, le-ltb}
 use Rattle.lists.specs.Pick.{pick}
 use Rattle.lists.specs.Lowest.{Lowest, lowest-unique}
 use Rattle.words.specs.Answers.{refused, done}
-use Rattle.table.specs.Table.{shortest, height}
+use Rattle.probes.specs.Table.{shortest, height}
 use Rattle.stack.specs.Stack.{raised, Fits, bins}
 use Rattle.stack.specs.FirstFit.{Outcome, outcome, marked, binOf, startIn, fitted}
 use Rattle.stack.specs.Rows.{length-raised, raised-below, raised-in, raised-above}

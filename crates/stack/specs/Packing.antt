@@ -13,7 +13,7 @@ use mathlib.Core.List.{List}
 use Prim.Native.Nat.{ℕ, _+_, _≤_, _<_}
 use lib.ListN.{length, getD}
 use Rattle.wire.specs.Meeting.{moved}
-use Rattle.table.specs.Table.{shortest, height}
+use Rattle.probes.specs.Table.{shortest, height}
 use Rattle.chain.specs.Corners.{cornerX, cornerY}
 use Rattle.order.specs.Order.{first}
 

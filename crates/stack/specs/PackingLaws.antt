@@ -19,8 +19,8 @@ use Rattle.wire.specs.Meeting.{lag, Apart, moved}
 use Rattle.wire.specs.Lag.{lag-unique, lag-below}
 use Rattle.wire.specs.Apartness.{apart-sound, apart-complete, never-meet-swap}
 use Rattle.wire.specs.Moving.{length-moved, moved-at, moved-lt, clean-moved}
-use Rattle.table.specs.Table.{shortest}
-use Rattle.table.specs.Heights.{shortest-positive}
+use Rattle.probes.specs.Table.{shortest}
+use Rattle.probes.specs.Heights.{shortest-positive}
 use Rattle.chain.specs.Corners.{cornerX, cornerY}
 use Rattle.order.specs.Order.{first, IsFirst}
 use Rattle.order.specs.Following.{first-is, first-shortest}
@@ -99,7 +99,7 @@ module _ (Ts qs zs : List ℕ) (ha : Harmonic Ts) (pos : Positive qs (length Ts)
       seen = lag-below (shortest Ts) 0 (getD zs j 0) w-positive ∙ ap (λ (x : ℕ). x % shortest Ts) (sub-zero (getD zs j 0 + shortest Ts)) ∙ add-mod-right (getD zs j 0) (shortest Ts)
 
       least : getD Ts f 0 ≤ getD Ts j 0
-      least = rw short (Rattle.table.specs.Extremes.shortest-least Ts j hj)
+      least = rw short (Rattle.probes.specs.Extremes.shortest-least Ts j hj)
 
       by : Dec (f ≡ j) → getD zs j 0 % shortest Ts + getD qs j 0 ≤ shortest Ts
       by (yes e) =

@@ -16,8 +16,8 @@ use lib.ListN.{length, getD, replicate, length-replicate, getD-replicate}
 use Rattle.lists.specs.Sums.{sumOf}
 use Rattle.lists.specs.Harmonic.{Harmonic, Positive}
 use Rattle.wire.specs.Wire.{NeverMeet}
-use Rattle.table.specs.Table.{shortest, rows, height}
-use Rattle.table.specs.Heights.{height-positive, rows-slots}
+use Rattle.probes.specs.Table.{shortest, rows, height}
+use Rattle.probes.specs.Heights.{height-positive, rows-slots}
 use Rattle.chain.specs.Corners.{cornerX, cornerY, startOf}
 use Rattle.chain.specs.CornerLaws.{OnGrid, start-below, corner-of-start}
 use Rattle.stack.specs.Stack.{raised}
@@ -118,7 +118,7 @@ module _ (bs : List Read) (fs : List ℕ) (g : Piled bs fs) (h q j : ℕ) (z : 0
 module _ (Ts qs ss : List ℕ) (ha : Harmonic Ts) (pos : Positive qs (length Ts)) (i : ℕ) (hi : i < length Ts) (x y : ℕ)
     (inside : x + getD qs i 0 ≤ shortest Ts) (aligned : height Ts (getD Ts i 0) ∣ y) (start : getD ss i 0 ≡ startOf Ts (getD Ts i 0) x (y % rows Ts)) where
   rows-positive : 0 < rows Ts
-  rows-positive = rw (rows-slots Ts ha i hi) (native.Mathlib.Nat.mul-pos (height-positive Ts ha i hi) (slots (getD Ts i 0 / shortest Ts) (Rattle.table.specs.Heights.slots-times Ts ha i hi)))
+  rows-positive = rw (rows-slots Ts ha i hi) (native.Mathlib.Nat.mul-pos (height-positive Ts ha i hi) (slots (getD Ts i 0 / shortest Ts) (Rattle.probes.specs.Heights.slots-times Ts ha i hi)))
     where
       slots : (k : ℕ) → shortest Ts * k ≡ getD Ts i 0 → 0 < k
       slots zero e = absurd (omega (arith, ha .positive i hi))

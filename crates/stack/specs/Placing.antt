@@ -16,8 +16,8 @@ use lib.Seq.{getD-set-same, getD-set-other}
 use Rattle.lists.specs.Pick.{In}
 use Rattle.lists.specs.Sums.{sumOf}
 use Rattle.lists.specs.Harmonic.{Harmonic, Positive}
-use Rattle.table.specs.Table.{shortest, rows, height}
-use Rattle.table.specs.Heights.{height-positive}
+use Rattle.probes.specs.Table.{shortest, rows, height}
+use Rattle.probes.specs.Heights.{height-positive}
 use Rattle.chain.specs.Corners.{cornerX, cornerY, startOf}
 use Rattle.chain.specs.CornerLaws.{OnGrid, start-below, corner-of-start}
 use Rattle.stack.specs.Stack.{raised, Fits, bins}

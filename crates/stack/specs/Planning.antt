@@ -20,8 +20,8 @@ use Rattle.lists.specs.Harmonic.{Harmonic, Positive}
 use Rattle.words.specs.declared.Answer.{Answer}
 use Rattle.words.specs.Answers.{refused, done, mark}
 use Rattle.wire.specs.Wire.{Clean, CleanAmong}
-use Rattle.table.specs.Table.{shortest, longest, rows, height}
-use Rattle.table.specs.Heights.{height-positive, height-times, rows-slots, slots-times, shortest-positive}
+use Rattle.probes.specs.Table.{shortest, longest, rows, height}
+use Rattle.probes.specs.Heights.{height-positive, height-times, rows-slots, slots-times, shortest-positive}
 use Rattle.chain.specs.Corners.{cornerX}
 use Rattle.order.specs.Order.{order}
 use Rattle.order.specs.Listed.{order-length, order-once, order-sum}

@@ -16,8 +16,8 @@ use lib.ListN.{length, getD}
 use Rattle.lists.specs.Harmonic.{Harmonic}
 use Rattle.wire.specs.Meeting.{lag, Apart}
 use Rattle.wire.specs.Lag.{lag-unique}
-use Rattle.table.specs.Table.{shortest, longest, rows, height}
-use Rattle.table.specs.Heights.{shortest-positive, shortest-divides, slots-times, height-positive, rows-slots}
+use Rattle.probes.specs.Table.{shortest, longest, rows, height}
+use Rattle.probes.specs.Heights.{shortest-positive, shortest-divides, slots-times, height-positive, rows-slots}
 use Rattle.chain.specs.Digits.{AllPositive}
 use Rattle.chain.specs.Flip.{flip}
 use Rattle.chain.specs.Products.{Level}

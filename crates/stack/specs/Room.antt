@@ -6,7 +6,7 @@
 -- Assumes nothing.
 use mathlib.Core.List.{List, [], _∷_}
 use Prim.Native.Nat.{ℕ, _+_, _*_, _≤_, max}
-use Rattle.table.specs.Table.{longest, rows, height}
+use Rattle.probes.specs.Table.{longest, rows, height}
 
 -- q times M/T, over the probes
 unfoldable pub busyOf : List ℕ → List ℕ → List ℕ → ℕ

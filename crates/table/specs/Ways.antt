@@ -15,9 +15,9 @@ use Rattle.lists.specs.Lowest.{lowest, lowest-meets}
 use Rattle.lists.specs.Answering.{firstOf}
 use Rattle.words.specs.Answers.{refused, done}
 use Rattle.table.specs.declared.Table.{Table}
-use Rattle.table.specs.Table.{mostProbes, mostPeriod, mostRows, shortest, longest, rows, BadPeriod}
-use Rattle.table.specs.Verdict.{badPeriod, badLength, unchained, findings, verdict}
-use Rattle.columns.specs.Steps.{bad-period-tells}
+use Rattle.probes.specs.Table.{mostProbes, mostPeriod, mostRows, shortest, longest, rows, BadPeriod}
+use Rattle.probes.specs.Verdict.{badPeriod, badLength, unchained, findings, verdict}
+use Rattle.probes.specs.Steps.{bad-period-tells}
 
 -- no period is out of range
 pub in-range : (Ts : List ℕ) → length Ts ≤ lowest (badPeriod Ts) (length Ts) → (k : ℕ) → k < length Ts → (0 < getD Ts k 0) × (getD Ts k 0 ≤ mostPeriod)

@@ -1,9 +1,9 @@
 // The table of probes: its least and longest period, and the judges of numbers 1 to 6 and 9, which every other call composes.
 ghost use mathlib.Core.Path.{_≡_};
 ghost use Prim.Native.Nat.{ℕ, _≤_};
-ghost use Rattle.table.specs.Table.{mostProbes, mostRows, shortest, longest, rows};
-ghost use Rattle.table.specs.Verdict.{verdict, Validates};
-ghost use Rattle.table.specs.Composing.{listVerdict};
+ghost use Rattle.probes.specs.Table.{mostProbes, mostRows, shortest, longest, rows};
+ghost use Rattle.probes.specs.Verdict.{verdict, Validates};
+ghost use Rattle.probes.specs.Composing.{listVerdict};
 use chained::unchained;
 use columns::bad_length;
 use columns::bad_period;

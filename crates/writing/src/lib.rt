@@ -20,7 +20,7 @@ pub fn write(periods: &[u32], lengths: &[u32], starts: &[u32], out: &mut [u8]) -
     if Book::PROBES < n {
         return Answer::refused(2, 0);
     }
-    let blocks = counts::blocks_of(n);
+    let blocks = edition::blocks_of(n);
     let size = blocks * Book::BLOCK;
     if out.len() < size {
         return Answer::refused(7, 0);

@@ -17,7 +17,7 @@ use Rattle.filling.proofs.put_head.Reads as put-head-reads
 use Rattle.records.proofs.put_records.Reads as put-records-reads
 use Rattle.filling.proofs.put_sums.Reads as put-sums-reads
 use Rattle.filling.proofs.put_zeros.Reads as put-zeros-reads
-use Rattle.counts.proofs.records_of.Reads as records-of-reads
+use Rattle.edition.proofs.records_of.Reads as records-of-reads
 
 records-of-requires : tie.Need-records-of-requires
 records-of-requires c κs = search needs

@@ -7,7 +7,7 @@ use native.Mathlib.Omega.{arith}
 use lib.ListN.{length, getD}
 use borrow.Author.Count.{below-more}
 use Rattle.lists.specs.Telling.{tells-yes, tells-no}
-use Rattle.chained.specs.Seen.{Chained}
+use Rattle.probes.specs.Seen.{Chained}
 use borrow.Author.Needs.{needs}
 use Rattle.chained.proofs.clashes.Statement.{statement}
 use Rattle.chained.proofs.clashes.Tie as tie

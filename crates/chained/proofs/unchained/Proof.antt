@@ -6,8 +6,8 @@ use native.Mathlib.Omega.{arith}
 use lib.ListN.{length, getD, length-set}
 use borrow.Author.Tests.{not-true, not-false}
 use Rattle.lists.specs.Lowest.{Searching, searching-start, searching-next, searching-found, searching-none}
-use Rattle.chained.specs.Chained.{unchained}
-use Rattle.chained.specs.Seen.{Keeping, keeping-start, keeping-positive, keeping-seen, seen-more, keeping-clash, keeping-new, new-room, new-more}
+use Rattle.probes.specs.Chained.{unchained}
+use Rattle.probes.specs.Seen.{Keeping, keeping-start, keeping-positive, keeping-seen, seen-more, keeping-clash, keeping-new, new-room, new-more}
 use borrow.Author.Needs.{needs}
 use Rattle.chained.proofs.unchained.Statement.{statement}
 use Rattle.chained.proofs.unchained.Tie as tie

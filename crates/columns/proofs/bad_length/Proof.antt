@@ -7,8 +7,8 @@ use lib.ListN.{length, getD}
 use Rattle.lists.specs.Lowest.{Searching, searching-start, searching-next, searching-found, searching-none}
 use Rattle.lists.specs.Telling.{tells-true, tells-false}
 use mathlib.Core.Logic.{⊎-elim}
-use Rattle.columns.specs.Columns.{badLength}
-use Rattle.columns.specs.Steps.{length-tells}
+use Rattle.probes.specs.Columns.{badLength}
+use Rattle.probes.specs.Steps.{length-tells}
 use borrow.Author.Needs.{needs}
 use Rattle.columns.proofs.bad_length.Statement.{statement}
 use Rattle.columns.proofs.bad_length.Tie as tie

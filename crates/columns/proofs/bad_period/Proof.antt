@@ -8,8 +8,8 @@ use lib.ListN.{length, getD}
 use Rattle.lists.specs.Lowest.{Searching, searching-start, searching-next, searching-found, searching-none}
 use Rattle.lists.specs.Telling.{tells-true, tells-false}
 use mathlib.Core.Logic.{⊎-elim}
-use Rattle.columns.specs.Columns.{badPeriod}
-use Rattle.columns.specs.Steps.{bad-period-tells}
+use Rattle.probes.specs.Columns.{badPeriod}
+use Rattle.probes.specs.Steps.{bad-period-tells}
 use borrow.Author.Needs.{needs}
 use Rattle.columns.proofs.bad_period.Statement.{statement}
 use Rattle.columns.proofs.bad_period.Tie as tie

@@ -4,7 +4,7 @@ use mathlib.Core.Logic.{⊎-elim}
 use Prim.Native.Nat.{ℕ, _≤_, _<_, _-_}
 use native.Mathlib.Omega.{arith}
 use lib.ListN.{length}
-use Rattle.columns.specs.Steps.{Growing, growing-start, growing-next, growing-done}
+use Rattle.probes.specs.Steps.{Growing, growing-start, growing-next, growing-done}
 use borrow.Author.Needs.{needs}
 use Rattle.columns.proofs.greatest.Statement.{statement}
 use Rattle.columns.proofs.greatest.Tie as tie

@@ -5,8 +5,8 @@ use native.Mathlib.Omega.{arith}
 use lib.ListN.{length, getD}
 use Rattle.lists.specs.Lowest.{Searching, searching-start, searching-next, searching-found, searching-none}
 use Rattle.lists.specs.Telling.{tells-true, tells-false}
-use Rattle.columns.specs.Columns.{late}
-use Rattle.columns.specs.Steps.{late-tells}
+use Rattle.probes.specs.Columns.{late}
+use Rattle.probes.specs.Steps.{late-tells}
 use borrow.Author.Needs.{needs}
 use Rattle.columns.proofs.late.Statement.{statement}
 use Rattle.columns.proofs.late.Tie as tie

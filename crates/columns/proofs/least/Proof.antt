@@ -4,7 +4,7 @@ use mathlib.Core.Logic.{⊎-elim}
 use Prim.Native.Nat.{ℕ, _≤_, _<_, _-_}
 use native.Mathlib.Omega.{arith}
 use lib.ListN.{length}
-use Rattle.columns.specs.Steps.{Lessening, lessening-start, lessening-next, lessening-done, shortest-none}
+use Rattle.probes.specs.Steps.{Lessening, lessening-start, lessening-next, lessening-done, shortest-none}
 use borrow.Author.Needs.{needs}
 use Rattle.columns.proofs.least.Statement.{statement}
 use Rattle.columns.proofs.least.Tie as tie

@@ -2,8 +2,8 @@
 use mathlib.Core.Path.{_≡_, refl, sym, ap, _∙_}
 use native.Mathlib.Omega.{arith}
 use lib.ListN.{length}
-use Rattle.table.specs.Laws.{sound-gives}
-use Rattle.table.specs.Composing.{zero-sound}
+use Rattle.probes.specs.Laws.{sound-gives}
+use Rattle.probes.specs.Composing.{zero-sound}
 use Rattle.admitting.specs.Ways.{corners-differ, corners-refused, corners-short-x, corners-short-y, corners-late, corners-pass}
 use borrow.Author.Needs.{needs}
 use Rattle.cornering.proofs.corners_judged.Statement.{statement}

@@ -10,7 +10,7 @@ use Rattle.drafting.proofs.put_plan.Lts as lts
 use Rattle.first_lines.proofs.put_answer.Reads as put-answer-reads
 use Rattle.first_lines.proofs.put_head.Reads as put-head-reads
 use Rattle.probe_lines.proofs.put_probes.Reads as put-probes-reads
-use Rattle.planning.proofs.plan.Reads as plan-reads
+use Rattle.packing.proofs.plan.Reads as plan-reads
 use Rattle.drafting.proofs.ran.Reads as ran-reads
 use Rattle.table.proofs.Table.of.Reads as of-reads
 

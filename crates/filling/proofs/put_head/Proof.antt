@@ -12,8 +12,8 @@ use Rattle.filling.proofs.put_head.Reads as reads
 use Rattle.filling.proofs.put_head.Lts as lts
 use Rattle.records.proofs.put2.Reads as put2-reads
 use Rattle.records.proofs.put4.Reads as put4-reads
-use Rattle.counts.proofs.blocks_of.Reads as blocks-of-reads
-use Rattle.counts.proofs.records_of.Reads as records-of-reads
+use Rattle.edition.proofs.blocks_of.Reads as blocks-of-reads
+use Rattle.edition.proofs.records_of.Reads as records-of-reads
 
 blocks-of-requires : tie.Need-blocks-of-requires
 blocks-of-requires c κs = search needs

@@ -12,7 +12,7 @@ use Rattle.judging.proofs.used_unused.Tie as tie
 use Rattle.judging.proofs.used_unused.Reads as reads
 use Rattle.judging.proofs.used_unused.Lts as lts
 use Rattle.sums.proofs.all_zero.Reads as all-zero-reads
-use Rattle.counts.proofs.records_of.Reads as records-of-reads
+use Rattle.edition.proofs.records_of.Reads as records-of-reads
 
 records-of-requires : tie.Need-records-of-requires
 records-of-requires c κs = search needs

@@ -9,10 +9,10 @@ use Rattle.judging.proofs.wrong_field.Statement.{statement}
 use Rattle.judging.proofs.wrong_field.Tie as tie
 use Rattle.judging.proofs.wrong_field.Reads as reads
 use Rattle.judging.proofs.wrong_field.Lts as lts
-use Rattle.counts.proofs.blocks_of.Reads as blocks-of-reads
-use Rattle.numerals.proofs.four.Reads as four-reads
-use Rattle.counts.proofs.records_of.Reads as records-of-reads
-use Rattle.numerals.proofs.two.Reads as two-reads
+use Rattle.edition.proofs.blocks_of.Reads as blocks-of-reads
+use Rattle.edition.proofs.four.Reads as four-reads
+use Rattle.edition.proofs.records_of.Reads as records-of-reads
+use Rattle.edition.proofs.two.Reads as two-reads
 
 returns : tie.Need-returns
 returns c =

@@ -11,7 +11,7 @@ use Rattle.judging.proofs.wrong_sum.Tie as tie
 use Rattle.judging.proofs.wrong_sum.Reads as reads
 use Rattle.judging.proofs.wrong_sum.Lts as lts
 use Rattle.sums.proofs.byte_sum.Reads as byte-sum-reads
-use Rattle.numerals.proofs.four.Reads as four-reads
+use Rattle.edition.proofs.four.Reads as four-reads
 use Rattle.sums.proofs.place_sum.Reads as place-sum-reads
 
 byte-sum-requires : tie.Need-byte-sum-requires

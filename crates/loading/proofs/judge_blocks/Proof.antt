@@ -15,7 +15,7 @@ use Rattle.loading.proofs.judge_blocks.Tie as tie
 use Rattle.loading.proofs.judge_blocks.Reads as reads
 use Rattle.loading.proofs.judge_blocks.Lts as lts
 use Rattle.judging.proofs.verdict.Reads as verdict-reads
-use Rattle.numerals.proofs.two.Reads as two-reads
+use Rattle.edition.proofs.two.Reads as two-reads
 use Rattle.words.proofs.Answer.refused.Reads as refused-reads
 
 abbrev Inv-loop : tie.InvT-loop

@@ -12,7 +12,7 @@ use Rattle.loading.proofs.load.Statement.{statement}
 use Rattle.loading.proofs.load.Tie as tie
 use Rattle.loading.proofs.load.Reads as reads
 use Rattle.loading.proofs.load.Lts as lts
-use Rattle.numerals.proofs.four.Reads as four-reads
+use Rattle.edition.proofs.four.Reads as four-reads
 
 abbrev Inv-loop : tie.InvT-loop
 Inv-loop book f n into₀ i₀ into i = (i ≤ n) × (into ≡ column firstEdition book f 0 i ++ drop i into₀)

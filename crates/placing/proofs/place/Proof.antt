@@ -3,7 +3,7 @@ use mathlib.Core.Path.{_≡_, refl, sym, ap, _∙_}
 use native.Mathlib.Omega.{arith}
 use lib.ListN.{length, getD, length-set}
 use Rattle.grid.specs.Laws.{period-positive, tall-is, shortest-is}
-use Rattle.table.specs.Table.{height}
+use Rattle.probes.specs.Table.{height}
 use Rattle.placing.specs.Laws.{read-small, tall-small, tall-positive, tall-divides, row-bin, row-fits, row-grid, row-tried, row-stuck}
 use borrow.Author.Needs.{needs}
 use Rattle.placing.proofs.place.Statement.{statement}

@@ -9,7 +9,7 @@ use Rattle.plan.proofs.main.Reads as reads
 use Rattle.plan.proofs.main.Lts as lts
 use Rattle.io.proofs.read_full.Reads as read-full-reads
 use Rattle.io.proofs.write_all.Reads as write-all-reads
-use Rattle.plan_paper.proofs.plan_page.Reads as plan-page-reads
+use Rattle.pages.proofs.plan_page.Reads as plan-page-reads
 
 slice-aggregate-read-full : tie.Need-slice-aggregate-read-full
 slice-aggregate-read-full c = search needs

@@ -4,7 +4,7 @@ use Prim.Native.Nat.{ℕ, _≤_, _<_, _-_}
 use native.Mathlib.Omega.{arith}
 use lib.ListN.{length, getD}
 use Rattle.lists.specs.Lowest.{Searching, searching-start, searching-next, searching-found, searching-none}
-use Rattle.grid.specs.Grid.{offGrid}
+use Rattle.chain.specs.Grid.{offGrid}
 use Rattle.grid.specs.Laws.{period-positive, tall-positive, off-x, off-y, off-row, on-all}
 use borrow.Author.Needs.{needs}
 use Rattle.plotting.proofs.off_grid.Statement.{statement}

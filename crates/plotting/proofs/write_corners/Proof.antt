@@ -5,7 +5,7 @@ use native.Mathlib.Omega.{arith}
 use lib.ListN.{length, getD}
 use Rattle.lists.specs.Counted.{filled, Filling, filling-start, filling-length, filling-next}
 use Rattle.grid.specs.declared.Corner.{Corner}
-use Rattle.grid.specs.Grid.{xAt, yAt}
+use Rattle.chain.specs.Grid.{xAt, yAt}
 use borrow.Author.Needs.{needs}
 use Rattle.plotting.proofs.write_corners.Statement.{statement}
 use Rattle.plotting.proofs.write_corners.Tie as tie

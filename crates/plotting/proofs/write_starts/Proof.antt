@@ -4,7 +4,7 @@ use Prim.Native.Nat.{ℕ, _≤_, _<_, _-_}
 use native.Mathlib.Omega.{arith}
 use lib.ListN.{length, getD}
 use Rattle.lists.specs.Counted.{filled, Filling, filling-start, filling-length, filling-next}
-use Rattle.grid.specs.Grid.{startAt}
+use Rattle.chain.specs.Grid.{startAt}
 use borrow.Author.Needs.{needs}
 use Rattle.plotting.proofs.write_starts.Statement.{statement}
 use Rattle.plotting.proofs.write_starts.Tie as tie

@@ -7,7 +7,7 @@ use Rattle.replies.proofs.reply.Statement.{statement}
 use Rattle.replies.proofs.reply.Tie as tie
 use Rattle.replies.proofs.reply.Reads as reads
 use Rattle.replies.proofs.reply.Lts as lts
-use Rattle.reading.proofs.read.Reads as read-reads
+use Rattle.book.proofs.read.Reads as read-reads
 use Rattle.replies.proofs.ask.Reads as ask-reads
 
 slice-aggregate-read : tie.Need-slice-aggregate-read

@@ -126,7 +126,7 @@ loop-again c =
     let l = c .before .before .before .before .before .before .before .before .before .loop in
     let e = order-entry Ts ps (a .t3) (l .k) (p .1 .1 .0) (omega arith) in
     let probe : getD (a .t3) (l .k) 0 < length Ts = rw e (order-probe Ts ps (l .k) (omega arith)) in
-    seating-next Ts ps (a .starts .now) (a .fills .now) (l .starts) (l .fills) (l .k) (l .inv) (omega arith) (getD (a .t3) (l .k) 0) e _ _ _ (c .before .before .before .before .before .place .ensures) (not-false _ (c .if1 .left)) (omega (arith, p .1 .1 .1 .0 (getD (a .t3) (l .k) 0) probe .1, p .0 .most _ probe, Rattle.table.specs.Extremes.shortest-least Ts (getD (a .t3) (l .k) 0) probe))
+    seating-next Ts ps (a .starts .now) (a .fills .now) (l .starts) (l .fills) (l .k) (l .inv) (omega arith) (getD (a .t3) (l .k) 0) e _ _ _ (c .before .before .before .before .before .place .ensures) (not-false _ (c .if1 .left)) (omega (arith, p .1 .1 .1 .0 (getD (a .t3) (l .k) 0) probe .1, p .0 .most _ probe, Rattle.probes.specs.Extremes.shortest-least Ts (getD (a .t3) (l .k) 0) probe))
 
 done-requires : tie.Need-done-requires Inv-loop μ-loop
 done-requires c κs = search needs

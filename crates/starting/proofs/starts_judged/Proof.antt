@@ -2,8 +2,8 @@
 use mathlib.Core.Path.{_≡_, refl, sym, ap, _∙_}
 use native.Mathlib.Omega.{arith}
 use lib.ListN.{length}
-use Rattle.table.specs.Laws.{sound-gives}
-use Rattle.table.specs.Composing.{zero-sound}
+use Rattle.probes.specs.Laws.{sound-gives}
+use Rattle.probes.specs.Composing.{zero-sound}
 use Rattle.grid.specs.Laws.{prepared-of}
 use Rattle.admitting.specs.Ways.{starts-differ-x, starts-differ-y, starts-refused, starts-short, starts-off, starts-pass}
 use borrow.Author.Needs.{needs}

@@ -5,8 +5,8 @@ use native.Mathlib.Omega.{arith}
 use lib.ListN.{length}
 use Rattle.lists.specs.Lowest.{lowest}
 use Rattle.table.specs.declared.Table.{Table}
-use Rattle.table.specs.Table.{shortest, rows, mostRows}
-use Rattle.table.specs.Verdict.{badPeriod, badLength, unchained}
+use Rattle.probes.specs.Table.{shortest, rows, mostRows}
+use Rattle.probes.specs.Verdict.{badPeriod, badLength, unchained}
 use Rattle.table.specs.Ways.{in-range, bad-length-is, way-differ, way-many, way-period, way-length, way-chain, way-rows, way-done}
 use borrow.Author.Needs.{needs}
 use Rattle.table.proofs.judge.Statement.{statement}

@@ -1,8 +1,8 @@
 -- `table::judge_list` meets its contract: the ways out of specs/Composing. Assumes nothing.
 use mathlib.Core.Path.{_≡_, _∙_}
 use native.Mathlib.Omega.{arith}
-use Rattle.table.specs.Laws.{Soundness, sound-gives}
-use Rattle.table.specs.Composing.{list-differ, list-refused, list-late, list-done, zero-sound}
+use Rattle.probes.specs.Laws.{Soundness, sound-gives}
+use Rattle.probes.specs.Composing.{list-differ, list-refused, list-late, list-done, zero-sound}
 use borrow.Author.Needs.{needs}
 use Rattle.table.proofs.judge_list.Statement.{statement}
 use Rattle.table.proofs.judge_list.Tie as tie

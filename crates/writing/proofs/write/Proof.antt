@@ -16,7 +16,7 @@ use Rattle.writing.proofs.write.Tie as tie
 use Rattle.writing.proofs.write.Reads as reads
 use Rattle.writing.proofs.write.Lts as lts
 use Rattle.blocks.proofs.put_blocks.Reads as put-blocks-reads
-use Rattle.counts.proofs.blocks_of.Reads as blocks-of-reads
+use Rattle.edition.proofs.blocks_of.Reads as blocks-of-reads
 use Rattle.words.proofs.Answer.refused.Reads as refused-reads
 
 refused-requires : tie.Need-refused-requires

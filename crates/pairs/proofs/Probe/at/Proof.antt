@@ -1,6 +1,6 @@
 -- `pairs::Probe::at` meets its contract: the three columns are of one length. Assumes nothing.
 use native.Mathlib.Omega.{arith}
-use Rattle.table.specs.Laws.{sound-gives}
+use Rattle.probes.specs.Laws.{sound-gives}
 use borrow.Author.Needs.{needs}
 use Rattle.pairs.proofs.Probe.at.Statement.{statement}
 use Rattle.pairs.proofs.Probe.at.Tie as tie
