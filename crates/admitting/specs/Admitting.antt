@@ -4,7 +4,7 @@
 --     cornerFindings, startFindings     what the checks find
 -- Assumes nothing.
 use mathlib.Core.Logic.{_⊎_, _≢_}
-use mathlib.Core.Bool.{Bool, not}
+use mathlib.Core.Bool.{not}
 use mathlib.Core.List.{List, [], _∷_, _++_}
 use Prim.Native.Nat.{ℕ, _<_}
 use lib.Dec.{ltb, eqb}

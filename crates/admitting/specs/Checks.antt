@@ -2,8 +2,8 @@
 --     judged-refused, judged-passed     a judge that asks the table first, and then the checks gs
 --     corner-find, start-find, plan-find    the checks find what the lines ask for
 -- Assumes nothing.
-use mathlib.Core.Path.{_≡_, refl, sym, ap, _∙_}
-use mathlib.Core.Logic.{_⊎_, inl, inr}
+use mathlib.Core.Path.{_≡_, refl, sym, _∙_}
+use mathlib.Core.Logic.{_⊎_}
 use mathlib.Core.Bool.{Bool, not, true, false}
 use mathlib.Core.List.{List, [], _∷_, _++_}
 use Prim.Native.Nat.{ℕ, _≤_, _<_}
@@ -11,15 +11,15 @@ use native.Mathlib.Omega.{arith}
 use lib.Dec.{ltb, eqb}
 use lib.ListN.{length}
 use borrow.Author.Tests.{eq-eqb, ne-eqb, lt-ltb, le-ltb}
-use Rattle.lists.specs.Pick.{pick, either, Tells}
+use Rattle.lists.specs.Pick.{either}
 use Rattle.lists.specs.Telling.{tells-either, tells-not, tells-eq, tells-lt}
-use Rattle.lists.specs.Lowest.{lowest, lowest-meets}
+use Rattle.lists.specs.Lowest.{lowest-meets}
 use Rattle.lists.specs.Refusals.{line, whole}
 use Rattle.lists.specs.Answering.{Found, found, tested, firstOf, first-of-append, AllFind, all-find-append, finds-whole}
 use Rattle.words.specs.declared.Answer.{Answer}
 use Rattle.words.specs.Answers.{refused, done}
 use Rattle.probes.specs.Table.{lines, lateLine, Differ, DifferThree, rows}
-use Rattle.probes.specs.Verdict.{findings, late, verdict}
+use Rattle.probes.specs.Verdict.{findings, verdict}
 use Rattle.probes.specs.Laws.{findings-find, late-meets}
 use Rattle.probes.specs.Composing.{Numbered, numbered-append, findings-numbered, compose-done, compose-refused, refusal-is}
 use Rattle.chain.specs.Grid.{OffGridAt, offGrid}

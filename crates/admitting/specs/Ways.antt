@@ -1,15 +1,12 @@
 -- THE WAYS OUT of the three judges of this crate: what the tests on the way showed, as plain facts, and the answer that they make.
 -- Assumes nothing.
-use mathlib.Core.Path.{_≡_, refl, sym, ap, _∙_}
-use mathlib.Core.Logic.{_⊎_, inl, inr}
-use mathlib.Core.Bool.{Bool, not, true, false}
+use mathlib.Core.Path.{_≡_, sym, ap, _∙_}
+use mathlib.Core.Bool.{Bool, not}
 use mathlib.Core.List.{List, [], _∷_, _++_}
 use Prim.Native.Nat.{ℕ, _≤_, _<_}
-use native.Mathlib.Omega.{arith}
 use lib.Dec.{ltb, eqb}
 use lib.ListN.{length}
 use borrow.Author.Tests.{lt-ltb, le-ltb}
-use Rattle.lists.specs.Pick.{either}
 use Rattle.lists.specs.Lowest.{lowest}
 use Rattle.lists.specs.Answering.{Found, found, firstOf}
 use Rattle.words.specs.declared.Answer.{Answer}

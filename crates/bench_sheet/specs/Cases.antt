@@ -19,7 +19,7 @@ use Rattle.wire.specs.Wire.{Clean}
 use Rattle.probes.specs.Table.{rows, widths}
 use Rattle.probes.specs.Verdict.{verdict}
 use Rattle.chain.specs.Flip.{flip}
-use Rattle.stack.specs.FirstFit.{Outcome, outcome, planned}
+use Rattle.stack.specs.FirstFit.{outcome, planned}
 use Rattle.meetings.specs.Check.{checked}
 use Rattle.sheets.specs.Bytes.{word}
 use Rattle.sheets.specs.Layout.{firstEdition, sumPlace, sumPlace2}

@@ -1,10 +1,8 @@
 -- THE BENCH SHEET: EVERY CASE HOLDS, by computation. That a list is clean is about every tick there is, through the test that is proved to tell it.
 -- Assumes nothing.
-use mathlib.Core.Path.{_≡_, refl, ap, _∙_}
-use mathlib.Core.Bool.{Bool, not}
-use mathlib.Core.List.{List, [], _∷_, _++_, map, reverse}
-use Prim.Native.Nat.{ℕ, _+_, _*_, _/_, _<_}
-use lib.ListN.{length, getD}
+use mathlib.Core.Path.{_≡_, refl, ap}
+use mathlib.Core.List.{List, [], _∷_, reverse}
+use Prim.Native.Nat.{ℕ, _+_, _*_, _/_}
 use Rattle.lists.specs.Pick.{anyBelow}
 use Rattle.lists.specs.Lowest.{lowest, lowestFrom}
 use Rattle.lists.specs.Answering.{firstOf}
@@ -33,7 +31,7 @@ use Rattle.volumes.specs.Writing.{bookOf}
 use Rattle.text.specs.Text.{letters, digitsThen, decimal, spaced, printedLine}
 use Rattle.lines.specs.Lines.{answerLine, headLine, startText, probeLine, probeLines}
 use Rattle.paper.specs.Printed.{ran, planText}
-use Rattle.bench_sheet.specs.Cases.{Case, True, AllTrue, cases}
+use Rattle.bench_sheet.specs.Cases.{AllTrue, cases}
 
 -- a plan's starts stand in it unopened; each is the one that the digits give
 opened : (Ts : List ℕ) (T x y : ℕ) → startOf Ts T x y ≡ x + shortest Ts * turned (reverse (levels (ratios Ts) (T / shortest Ts))) (digits (reverse (levels (ratios Ts) (T / shortest Ts))) (y / height Ts T))

@@ -3,8 +3,8 @@
 --     plan-past, plan-past-fills   "Entries past the table's n probes or H rows are never written": of starts and fills, whatever the answer
 -- Not said here: the same of the other calls. The results that their promises name end in `drop n` of what was lent (packing/doneCorners, book/doneRead, ..).
 -- Assumes nothing.
-use mathlib.Core.Path.{_≡_, refl, sym, ap, _∙_}
-use mathlib.Core.Logic.{_⊎_, inl, inr, ⊎-elim, _≢_}
+use mathlib.Core.Path.{_≡_, refl, ap, _∙_}
+use mathlib.Core.Logic.{_⊎_, inl, inr, ⊎-elim}
 use mathlib.Core.Bool.{Bool, true, false}
 use mathlib.Core.List.{List, [], _∷_, _++_}
 use Prim.Native.Nat.{ℕ, zero, suc, _+_, _-_, _*_, _≤_, _<_}
@@ -17,11 +17,10 @@ use Rattle.lists.specs.Pick.{pick}
 use Rattle.lists.specs.Lowest.{lowest, lowestFrom}
 use Rattle.lists.specs.Answering.{firstOf}
 use Rattle.lists.specs.Refusals.{Line, First}
-use Rattle.words.specs.declared.Answer.{Answer}
 use Rattle.words.specs.Answers.{refused, done, mark}
 use Rattle.wire.specs.Wire.{Clean}
 use Rattle.probes.specs.Table.{Sound, greatestOf, shortest, longest, rows, height, widths}
-use Rattle.probes.specs.Verdict.{Validates, findings, verdict}
+use Rattle.probes.specs.Verdict.{findings, verdict}
 use Rattle.probes.specs.Laws.{passes-sound}
 use Rattle.order.specs.Order.{orderBelow, order}
 use Rattle.order.specs.Listed.{order-length, order-probe}

@@ -10,7 +10,6 @@ use mathlib.Core.Logic.{_⊎_, inl, inr, ⊎-elim}
 use mathlib.Core.List.{List, [], _∷_, _++_}
 use Prim.Native.Nat.{ℕ, _≤_, _<_}
 use native.Mathlib.Decide.{ℕ-discrete}
-use native.Mathlib.Omega.{arith}
 use lib.ListN.{length, take, drop}
 use Rattle.lists.specs.Pick.{In, in-left, in-right}
 use Rattle.lists.specs.Refusals.{Silents, whole, First, first-unique, first-numbers, first-rest, rest-first}

@@ -2,28 +2,26 @@
 --     on-grid-of            a corner that the test lets through is on the grid
 --     Prepared gives ..     w and the heights are at least 1, slots and rows are in range
 -- Assumes nothing.
-use mathlib.Core.Path.{_≡_, refl, sym, ap, _∙_}
-use mathlib.Core.Logic.{_⊎_, inl, inr}
-use mathlib.Core.Bool.{Bool, not, true, false}
+use mathlib.Core.Path.{_≡_, ap}
+use mathlib.Core.Logic.{inl, inr}
+use mathlib.Core.Bool.{true, false}
 use mathlib.Core.List.{List}
-use Prim.Native.Nat.{ℕ, _+_, _*_, _/_, _%_, _≤_, _<_, _∣_}
+use Prim.Native.Nat.{ℕ, _+_, _*_, _/_, _%_, _≤_, _<_}
 use native.Mathlib.Nat.{mul-comm, div-lt-iff-lt-mul, mul-lt-mul-of-pos-left, mul-div-cancel', lt-of-mul-lt-mul-left, mod-eq-zero-of-dvd, dvd-of-mod-eq-zero}
 use native.Mathlib.Omega.{arith}
-use lib.Dec.{leb, eqb}
 use lib.ListN.{length, getD}
-use Rattle.lists.specs.Pick.{Tells, either}
-use Rattle.lists.specs.Telling.{tells-either, tells-not, tells-le, tells-divides, tells-true, tells-false}
+use Rattle.lists.specs.Telling.{tells-true, tells-false}
 use Rattle.table.specs.declared.Table.{Table}
-use Rattle.probes.specs.Table.{mostPeriod, mostRows, shortest, longest, rows, height, Sound}
+use Rattle.probes.specs.Table.{shortest, longest, rows, height, Sound}
 use Rattle.probes.specs.Laws.{sound-gives}
 use Rattle.probes.specs.Heights.{shortest-positive, height-positive, rows-slots, slots-times}
 use Rattle.flipping.specs.declared.Chain.{Chain}
 use Rattle.chain.specs.Flip.{flip, unflip}
 use Rattle.chain.specs.Flip.Laws.{flip-below}
-use Rattle.chain.specs.Ratios.{ratios, twelve}
+use Rattle.chain.specs.Ratios.{ratios}
 use Rattle.chain.specs.RatioLaws.{ratios-level, ratios-positive}
 use Rattle.chain.specs.Slotted.{Slotted, chain-slotted, chain-flip, chain-unflip}
-use Rattle.chain.specs.Corners.{cornerX, cornerY, startOf, OffGrid}
+use Rattle.chain.specs.Corners.{cornerY, startOf}
 use Rattle.chain.specs.CornerLaws.{OnGrid, grid-complete, start-below}
 use Rattle.grid.specs.Prepared.{tableOf, chainOf, Prepared}
 use Rattle.chain.specs.Grid.{OffGridAt, offGrid, off-grid-tells}

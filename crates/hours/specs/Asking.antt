@@ -7,7 +7,7 @@
 --     ask-judged, -late, -done  the ways out of the judge
 --     ask-refused, ask-passed   a call that asks the judge first answers the judge's refusal, or what it has to say itself
 -- Assumes nothing.
-use mathlib.Core.Path.{_≡_, refl, sym, ap, _∙_}
+use mathlib.Core.Path.{_≡_, sym, _∙_}
 use mathlib.Core.List.{List, [], _∷_}
 use Prim.Native.Nat.{ℕ, _≤_, _<_}
 use native.Mathlib.Omega.{arith}
@@ -19,7 +19,7 @@ use Rattle.lists.specs.Answering.{tested, firstOf, first-of-append, AllFind, al
 use Rattle.words.specs.declared.Answer.{Answer}
 use Rattle.words.specs.Answers.{refused, done}
 use Rattle.words.specs.Ticks.{lastTick, TooLate, tooLate}
-use Rattle.probes.specs.Table.{mostProbes, widths, Sound, listLines}
+use Rattle.probes.specs.Table.{mostProbes, Sound, listLines}
 use Rattle.probes.specs.Verdict.{listFindings}
 use Rattle.probes.specs.Laws.{sound-gives}
 use Rattle.probes.specs.Composing.{Numbered, numbered-append, listVerdict, list-find, list-numbered, compose-done, compose-refused, refusal-is}

@@ -2,15 +2,14 @@
 --     Mutual f n        of f 0, .., f (n - 1) no two are equal, and of two one divides the other
 --     few               Mutual f n, and each in [a, a * 2^e): n is at most e
 -- Assumes nothing.
-use mathlib.Core.Path.{_≡_, refl, sym, ap, _∙_}
+use mathlib.Core.Path.{_≡_, refl}
 use mathlib.Core.Logic.{_⊎_, inl, inr, _≢_}
-use mathlib.Core.Bool.{Bool, true, false}
 use Prim.Native.Nat.{ℕ, zero, suc, _+_, _*_, _/_, _^_, _≤_, _<_, _∣_}
-use native.Mathlib.Nat.{mul-div-cancel', mul-le-mul-left, pow-suc, pow-zero, mul-one}
+use native.Mathlib.Nat.{mul-div-cancel', pow-suc, mul-one}
 use native.Mathlib.Decide.{decLt}
 use native.Mathlib.Omega.{arith}
 use lib.Dec.{ltb}
-use borrow.Author.Tests.{ltb-true, ltb-false, lt-ltb, le-ltb}
+use borrow.Author.Tests.{lt-ltb, le-ltb}
 use Rattle.lists.specs.Pick.{pick}
 
 abbrev pub Mutual : (ℕ → ℕ) → ℕ → Type 0

@@ -9,7 +9,7 @@
 use mathlib.Core.Path.{_≡_, refl, sym, ap, _∙_}
 use mathlib.Core.Logic.{inl, inr, ⊎-elim}
 use mathlib.Core.Bool.{Bool, true, false}
-use mathlib.Core.List.{List, [], _∷_, _++_}
+use mathlib.Core.List.{List, [], _∷_}
 use Prim.Native.Nat.{ℕ, _*_, _≤_, _<_}
 use native.Mathlib.Omega.{arith}
 use lib.Dec.{ltb}
@@ -18,12 +18,12 @@ use lib.Seq.{length-take-le}
 use borrow.Author.Tests.{ltb-true, ltb-false}
 use Rattle.lists.specs.Pick.{pick, In}
 use Rattle.lists.specs.Telling.{tells-true}
-use Rattle.lists.specs.Refusals.{Silents, first-unique, first-numbers}
+use Rattle.lists.specs.Refusals.{first-unique, first-numbers}
 use Rattle.words.specs.declared.Answer.{Answer}
 use Rattle.words.specs.Answers.{refused}
 use Rattle.probes.specs.Table.{mostProbes, mostRows}
 use Rattle.sheets.specs.Layout.{firstEdition, blockBytes, mostN}
-use Rattle.volumes.specs.Reading.{badSize, Columns, columns, Reads, readOf}
+use Rattle.volumes.specs.Reading.{badSize, Columns, Reads}
 use Rattle.volumes.specs.ReadLaws.{read-size}
 use Rattle.sheets.specs.BlocksLaws.{bad-size-tells}
 use Rattle.stack.specs.FirstFit.{Outcome}
@@ -32,7 +32,7 @@ use Rattle.questions.specs.declared.Question.the-variants.{IsClean}
 use Rattle.questions.specs.Replies.{periodsIn, lengthsIn, Answers, readIn, replyOf}
 use Rattle.questions.specs.Asking.{opened-periods, opened-lengths}
 use Rattle.lines.specs.Lines.{answerLine, checkLine}
-use Rattle.paper.specs.Printed.{planText, plannedIn, planPage, checkPage}
+use Rattle.paper.specs.Printed.{planText, planPage, checkPage}
 use Rattle.paper.specs.Paper.{mostInput, Paper, paperLines, refusedPaper, donePaper, Prints, printOf}
 use Rattle.paper.specs.Laws.{planned-is, page-refused, page-planned, check-page-is, prints-short, prints-whole}
 

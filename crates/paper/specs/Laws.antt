@@ -11,8 +11,8 @@
 -- Assumes nothing.
 use mathlib.Core.Path.{_≡_, refl, sym, ap, _∙_}
 use mathlib.Core.Logic.{_⊎_, inl, inr}
-use mathlib.Core.Bool.{Bool, true, false}
-use mathlib.Core.List.{List, [], _∷_, _++_}
+use mathlib.Core.Bool.{true, false}
+use mathlib.Core.List.{List, _++_}
 use Prim.Native.Nat.{ℕ, _+_, _≤_, _<_}
 use native.Mathlib.Nat.{zero-add}
 use native.Mathlib.Decide.{ℕ-discrete}
@@ -20,14 +20,14 @@ use native.Mathlib.Omega.{arith}
 use lib.Dec.{eqb}
 use lib.ListN.{length, take, drop, replicate, length-append}
 use borrow.Author.Tests.{eq-eqb, ne-eqb}
-use Rattle.lists.specs.Pick.{pick, either}
+use Rattle.lists.specs.Pick.{either}
 use Rattle.lists.specs.Telling.{true-or-false}
 use Rattle.lists.specs.Refusals.{First}
 use Rattle.words.specs.declared.Answer.{Answer}
 use Rattle.words.specs.Answers.{refused}
 use Rattle.probes.specs.Table.{mostProbes, mostRows, rows}
 use Rattle.probes.specs.Laws.{sound-gives}
-use Rattle.stack.specs.FirstFit.{Outcome, outcome, planned}
+use Rattle.stack.specs.FirstFit.{Outcome}
 use Rattle.rectangles.specs.Plan.{Plans}
 use Rattle.rectangles.specs.Checks.{planned-meets}
 use Rattle.rectangles.specs.Ends.{silent-plan}
@@ -37,7 +37,7 @@ use Rattle.volumes.specs.Reading.{Columns, columns, Reads}
 use Rattle.volumes.specs.ReadLaws.{read-meets}
 use Rattle.volumes.proofs.Promises.{read-unique}
 use Rattle.questions.specs.declared.Question.the-variants.{IsClean}
-use Rattle.questions.specs.Replies.{periodsIn, lengthsIn, Answers, readIn, replyOf}
+use Rattle.questions.specs.Replies.{Answers, readIn, replyOf}
 use Rattle.questions.specs.Asking.{opened-periods, opened-lengths, answers-unique, reply-meets}
 use Rattle.text.specs.Putting.{Put, put-page}
 use Rattle.lines.specs.Lines.{answerLine, checkLine, headLine, probeLines}

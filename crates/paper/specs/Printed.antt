@@ -7,7 +7,7 @@
 -- Edges: `plan` never judges the starts; on 8 it prints all n lines; the empty book prints `0 0 0`.
 -- Assumes nothing.
 use mathlib.Core.Bool.{Bool}
-use mathlib.Core.List.{List, [], _∷_, _++_}
+use mathlib.Core.List.{List, _++_}
 use Prim.Native.Nat.{ℕ}
 use lib.Dec.{eqb}
 use lib.ListN.{length, replicate}

@@ -4,7 +4,7 @@
 --     row-tried, row-stuck  what placing does, and what it leaves
 -- Assumes nothing.
 use mathlib.Core.Path.{_≡_, refl, sym, ap, _∙_}
-use mathlib.Core.Bool.{Bool, true, false}
+use mathlib.Core.Bool.{true, false}
 use mathlib.Core.List.{List}
 use Prim.Native.Nat.{ℕ, zero, suc, _+_, _*_, _/_, _≤_, _<_, _∣_}
 use native.Mathlib.Nat.{dvd-mul-right, dvd-mul-left, mul-comm, mul-div-cancel-left, mul-le-mul-right, lt-of-mul-lt-mul-right, suc-mul, le-mul-of-pos-right}

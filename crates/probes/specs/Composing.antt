@@ -5,8 +5,7 @@
 --     listVerdict Ts ps ss  numbers 1 to 6 and 9 of a list, computed
 --     list-find             the checks of a list find what its lines ask for
 -- Assumes nothing.
-use mathlib.Core.Path.{_≡_, refl, sym, ap, _∙_}
-use mathlib.Core.Logic.{_⊎_, inl, inr}
+use mathlib.Core.Path.{_≡_, refl, sym, _∙_}
 use mathlib.Core.Bool.{Bool, true, false, not}
 use mathlib.Core.List.{List, [], _∷_, _++_}
 use Prim.Native.Nat.{ℕ, _≤_, _<_}
@@ -14,7 +13,7 @@ use native.Mathlib.Omega.{arith}
 use lib.Dec.{ltb, eqb}
 use lib.ListN.{length}
 use borrow.Author.Tests.{eq-eqb, ne-eqb, lt-ltb, le-ltb}
-use Rattle.lists.specs.Pick.{pick, either, Tells}
+use Rattle.lists.specs.Pick.{pick, either}
 use Rattle.lists.specs.Telling.{tells-either, tells-not, tells-eq}
 use Rattle.lists.specs.Lowest.{lowest}
 use Rattle.lists.specs.Answering.{Found, found, firstOf, first-of-append, AllFind, all-find-append}

@@ -5,8 +5,8 @@
 --     late-meets              what the search for 9 finds is the lowest late place
 --     never-mark              no start below a permitted period equals the mark
 -- Assumes nothing.
-use mathlib.Core.Path.{_≡_, refl, sym, ap, _∙_}
-use mathlib.Core.Logic.{_⊎_, inl, inr, _≢_}
+use mathlib.Core.Path.{_≡_, refl, ap}
+use mathlib.Core.Logic.{inl, inr, _≢_}
 use mathlib.Core.Bool.{Bool, true, false, not}
 use mathlib.Core.List.{List, [], _∷_}
 use Prim.Native.Nat.{ℕ, _≤_, _<_, _∣_}
@@ -19,12 +19,12 @@ use Rattle.lists.specs.Pick.{Tells, In}
 use Rattle.lists.specs.Telling.{tells-not, tells-eq, tells-lt}
 use Rattle.lists.specs.Standing.{stands, not-in}
 use Rattle.lists.specs.Lowest.{Lowest, lowest, lowest-meets}
-use Rattle.lists.specs.Refusals.{First, Silent, Silents, whole, line, numbers, first-silents, first-rest, rest-first}
+use Rattle.lists.specs.Refusals.{Silent, Silents, line, first-silents, first-rest}
 use Rattle.lists.specs.Answering.{found, Finds, AllFind, finds-whole, first-of}
 use Rattle.lists.specs.Harmonic.{Harmonic}
 use Rattle.words.specs.declared.Answer.{Answer}
 use Rattle.words.specs.Answers.{refused, done, mark}
-use Rattle.probes.specs.Table.{mostProbes, mostPeriod, mostRows, shortest, rows, BadPeriod, BadLength, Unchained, Differ, lines, Sound, Late, lateLine, Below}
+use Rattle.probes.specs.Table.{mostProbes, mostPeriod, mostRows, shortest, rows, BadPeriod, BadLength, Unchained, Differ, lines, Sound, Late}
 use Rattle.probes.specs.Verdict.{badPeriod, badLength, unchained, late, findings, verdict, Validates}
 use Rattle.probes.specs.Seen.{Chained, chained-tells, unchained-tells}
 use Rattle.probes.specs.Steps.{bad-period-tells, bad-length-tells, late-tells}

@@ -19,7 +19,7 @@ use lib.Dec.{ltb}
 use lib.ListN.{length, getD}
 use borrow.Author.Tests.{ltb-false}
 use Rattle.lists.specs.Refusals.{Line, Silent, Silents}
-use Rattle.lists.specs.Answering.{Found, Finds, AllFind, firstOf}
+use Rattle.lists.specs.Answering.{Found, AllFind, firstOf}
 use Rattle.words.specs.declared.Answer.{Answer}
 use Rattle.words.specs.Answers.{refused, done}
 use Rattle.probes.specs.Table.{Differ, DifferThree, lines, lateLine, listLines, Sound, Below}

@@ -4,11 +4,11 @@
 --     Keeping Ts seen n i  the kept ones are the different periods of the first i probes, and of two one divides the other
 -- The law that makes this the same: `keeping-seen`, `keeping-clash`, `keeping-new` give the test of number 5 over every earlier probe.
 -- Assumes nothing.
-use mathlib.Core.Path.{_≡_, refl, sym, ap, _∙_}
+use mathlib.Core.Path.{_≡_, refl, sym, _∙_}
 use mathlib.Core.Logic.{_⊎_, inl, inr, _≢_}
 use mathlib.Core.Bool.{Bool, true, false, not}
 use mathlib.Core.List.{List}
-use Prim.Native.Nat.{ℕ, zero, suc, _+_, _*_, _^_, _%_, _≤_, _<_, _∣_}
+use Prim.Native.Nat.{ℕ, _+_, _*_, _^_, _%_, _≤_, _<_, _∣_}
 use native.Mathlib.Nat.{dvd-refl}
 use native.Mathlib.Decide.{decLt}
 use native.Mathlib.Numerals.{add-one}
@@ -17,7 +17,7 @@ use lib.Dec.{eqb}
 use lib.ListN.{length, getD, set}
 use lib.Seq.{getD-set-same, getD-set-other}
 use borrow.Author.Tests.{eq-eqb, ne-eqb}
-use Rattle.lists.specs.Pick.{pick, either, Tells, anyBelow}
+use Rattle.lists.specs.Pick.{pick, Tells}
 use Rattle.lists.specs.Telling.{tells-true, tells-false, tells-as, tells-not, tells-either, tells-any, tells-divides}
 use Rattle.lists.specs.Doubling.{Mutual, few}
 use Rattle.words.specs.Ticks.{mostPeriod}

@@ -6,7 +6,7 @@
 --     Validates Ts ps a                         the promise: a is the refusal of the first line that applies, and done where none does
 -- Assumes nothing.
 use mathlib.Core.Path.{_≡_}
-use mathlib.Core.Bool.{Bool, true, false, not}
+use mathlib.Core.Bool.{Bool, not}
 use mathlib.Core.List.{List, [], _∷_, _++_}
 use Prim.Native.Nat.{ℕ}
 use lib.Dec.{ltb, eqb}

@@ -5,8 +5,7 @@
 --     reply-meets               replyOf is an answer
 --     answers-unique            and the only one
 -- Assumes nothing.
-use mathlib.Core.Path.{_≡_, refl, sym, ap, _∙_}
-use mathlib.Core.Logic.{⊎-elim}
+use mathlib.Core.Path.{_≡_, refl, ap}
 use mathlib.Core.List.{List}
 use Prim.Native.Nat.{ℕ, _≤_}
 use native.Mathlib.Decide.{ℕ-discrete}
@@ -17,9 +16,8 @@ use Rattle.lists.specs.Refusals.{First, Silents, first-unique, rest-first}
 use Rattle.words.specs.declared.Answer.{Answer}
 use Rattle.words.specs.Answers.{refused}
 use Rattle.sheets.specs.Layout.{firstEdition, mostN}
-use Rattle.volumes.specs.Reading.{nOf, Columns, columns, refusedRead, Reads}
+use Rattle.volumes.specs.Reading.{nOf, Columns, columns, Reads}
 use Rattle.volumes.specs.ReadLaws.{read-meets}
-use Rattle.meetings.specs.Check.{Checks}
 use Rattle.meetings.specs.Laws.{checked-meets}
 use Rattle.meetings.proofs.Promises.{check-unique}
 use Rattle.hours.specs.HolderLaws.{holder-meets}

@@ -5,10 +5,10 @@
 --     reads-refused             a reading with another number than 0 is the refusal of a line of the book
 --     reads-opened              a reading with number 0 shows that no line applies
 -- Assumes nothing.
-use mathlib.Core.Path.{_≡_, refl, sym, ap, _∙_}
+use mathlib.Core.Path.{_≡_, refl, ap, _∙_}
 use mathlib.Core.Logic.{_⊎_, inl, inr, ⊎-elim}
 use mathlib.Core.List.{List, [], _∷_, _++_, append-nil}
-use Prim.Native.Nat.{ℕ, zero, suc, _/_, _%_, _≤_, _<_}
+use Prim.Native.Nat.{ℕ, zero, suc, _≤_}
 use native.Mathlib.Decide.{decLe}
 use native.Mathlib.Omega.{arith}
 use lib.ListN.{length, take, drop}
@@ -17,8 +17,8 @@ use Rattle.lists.specs.Pick.{In}
 use Rattle.lists.specs.Refusals.{numbers, whole, First, Silents, first-numbers, first-parts}
 use Rattle.words.specs.declared.Answer.{Answer}
 use Rattle.words.specs.Answers.{refused}
-use Rattle.sheets.specs.Layout.{firstEdition, blockBytes, mostN}
-use Rattle.volumes.specs.Reading.{BadSize, blocksIn, nOf, blockLines, column, Columns, ShortColumn, refusedRead, doneRead, Reads}
+use Rattle.sheets.specs.Layout.{firstEdition, mostN}
+use Rattle.volumes.specs.Reading.{blocksIn, nOf, blockLines, column, Columns, ShortColumn, refusedRead, doneRead, Reads}
 use Rattle.sheets.specs.BlocksLaws.{RightSize, right-size, block-numbers}
 use Rattle.sheets.specs.Loading.{length-column}
 use Rattle.questions.specs.Carrying.{Refused, first-split, first-carry}

@@ -7,10 +7,10 @@
 --     replyOf q bs              the same, computed
 -- Edges: 24 is no line here, since no column is lent that could be too short.
 -- Assumes nothing.
-use mathlib.Core.List.{List, [], _∷_}
+use mathlib.Core.List.{List, _∷_}
 use Prim.Native.Nat.{ℕ}
 use lib.Dec.{eqb}
-use lib.ListN.{take, replicate}
+use lib.ListN.{replicate}
 use Rattle.lists.specs.Pick.{pick}
 use Rattle.lists.specs.Refusals.{Line, whole, First}
 use Rattle.words.specs.declared.Answer.{Answer}

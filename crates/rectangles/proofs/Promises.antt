@@ -17,7 +17,7 @@ use lib.Dec.{ltb}
 use lib.ListN.{length, getD, set, drop, replicate}
 use lib.ListN.{List·getD-append}
 use Rattle.lists.specs.Pick.{pick, In, in-left, in-right}
-use Rattle.lists.specs.Refusals.{Silents, whole, First, numbers, first-unique, first-numbers, first-rest, first-silents}
+use Rattle.lists.specs.Refusals.{Silents, whole, first-unique, first-numbers, first-rest}
 use Rattle.lists.specs.Counted.{filled, counted, length-counted, counted-at}
 use Rattle.words.specs.declared.Answer.{Answer}
 use Rattle.words.specs.Answers.{refused, done, mark}
@@ -28,17 +28,17 @@ use Rattle.probes.specs.Widths.{widths-none, sound-positive}
 use Rattle.chain.specs.Corners.{cornerX, cornerY, startOf}
 use Rattle.chain.specs.CornerLaws.{start-of-corner, corner-of-start}
 use Rattle.order.specs.Order.{order}
-use Rattle.stack.specs.FirstFit.{Outcome, outcome, marked, binOf, startIn, fitted, planLines, planFindings, refusedPlan, placed, planned}
+use Rattle.stack.specs.FirstFit.{Outcome, outcome, marked, binOf, startIn, fitted, planLines, refusedPlan, placed}
 use Rattle.stack.specs.Stack.{raised, bins}
 use Rattle.stack.specs.Room.{Room}
-use Rattle.stack.specs.Follows.{Follows, follows-fitted, follows-unique}
+use Rattle.stack.specs.Follows.{Follows, follows-fitted}
 use Rattle.stack.specs.Eight.{StopsAt, eight-sound, eight-complete}
 use Rattle.stack.specs.Planning.{fit, fit-below, fit-clean, fit-placed-below, fit-placed-clean, fit-ends, fit-room}
 use Rattle.chain.specs.Grid.{xAt, yAt, startAt}
-use Rattle.rectangles.specs.Converting.{Corners, corners, cornerLines, refusedCorners, doneCorners, ToCorners, Starts, asStarts, startLines, refusedStarts, doneStarts, ToStarts}
+use Rattle.rectangles.specs.Converting.{Corners, cornerLines, refusedCorners, doneCorners, ToCorners, Starts, startLines, refusedStarts, doneStarts, ToStarts}
 use Rattle.rectangles.specs.Plan.{Plans}
 use Rattle.rectangles.specs.Sound.{silents-append}
-use Rattle.rectangles.specs.Ends.{CornersReady, StartsReady, PlanReady, silent-corners, silent-starts, silent-plan}
+use Rattle.rectangles.specs.Ends.{PlanReady, silent-corners, silent-starts, silent-plan}
 
 -- an entry of a column whose first n entries were written
 filled-at : (f : ℕ → ℕ) (n : ℕ) (l : List ℕ) (i : ℕ) → i < n → getD (filled f n l) i 0 ≡ f i

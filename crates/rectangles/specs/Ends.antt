@@ -4,14 +4,13 @@
 -- Assumes nothing.
 use mathlib.Core.Path.{_≡_, refl, sym, ap, _∙_}
 use mathlib.Core.Logic.{_⊎_, inl, inr}
-use mathlib.Core.Bool.{Bool, true, false}
 use mathlib.Core.List.{List, [], _∷_, _++_}
 use Prim.Native.Nat.{ℕ, _≤_, _<_}
 use native.Mathlib.Omega.{arith}
 use lib.ListN.{length, getD, drop, replicate}
 use Rattle.lists.specs.Pick.{In}
 use Rattle.lists.specs.Standing.{stands, not-in}
-use Rattle.lists.specs.Refusals.{Line, Silent, Silents, line, whole, first-silents, first-rest}
+use Rattle.lists.specs.Refusals.{Silents, line, whole, first-silents, first-rest}
 use Rattle.lists.specs.Answering.{Found, firstOf}
 use Rattle.lists.specs.Counted.{filled}
 use Rattle.words.specs.declared.Answer.{Answer}

@@ -9,7 +9,6 @@
 --     blockVerdict L n k b B    the first of 21, 22 and 23 that applies, and 0 where none does
 -- Edges: n = 257 to 287 fits seven blocks and is 22.
 -- Assumes nothing.
-use mathlib.Core.Path.{_≡_}
 use mathlib.Core.Logic.{_⊎_, _≢_}
 use mathlib.Core.Bool.{Bool, not}
 use mathlib.Core.List.{List}

@@ -3,20 +3,20 @@
 --     RightField L n k b B  what bytes 0 to 11 say where 22 does not apply
 --     verdict-21, ..        the verdict from the tests
 -- Assumes nothing.
-use mathlib.Core.Path.{_≡_, refl, sym, ap, _∙_}
-use mathlib.Core.Logic.{_⊎_, inl, inr, _≢_}
-use mathlib.Core.Bool.{Bool, true, false, not}
-use mathlib.Core.List.{List, [], _∷_}
-use Prim.Native.Nat.{ℕ, suc, _+_, _*_, _≤_, _<_}
+use mathlib.Core.Path.{_≡_, sym}
+use mathlib.Core.Logic.{inl, inr, _≢_}
+use mathlib.Core.Bool.{true, false, not}
+use mathlib.Core.List.{List}
+use Prim.Native.Nat.{ℕ, _≤_, _<_}
 use native.Mathlib.Decide.{decLt, ℕ-discrete}
 use native.Mathlib.Omega.{arith}
-use lib.Dec.{ltb, eqb}
-use lib.ListN.{length, take, drop}
+use lib.Dec.{eqb}
+use lib.ListN.{take}
 use borrow.Author.Tests.{eq-eqb}
-use Rattle.lists.specs.Pick.{pick, either, Tells}
+use Rattle.lists.specs.Pick.{Tells}
 use Rattle.lists.specs.Telling.{tells-either, tells-not, tells-lt, tells-eq, tells-true, tells-false}
-use Rattle.sheets.specs.Bytes.{word, byteSum, placeSum, AllZero, allZero}
-use Rattle.sheets.specs.Layout.{Layout, headBytes, sumPlace, sumPlace2, mostN, blocksOf, recordsOf}
+use Rattle.sheets.specs.Bytes.{word, byteSum, placeSum}
+use Rattle.sheets.specs.Layout.{Layout, sumPlace, sumPlace2, mostN, blocksOf, recordsOf}
 use Rattle.sheets.specs.Block.{WrongSum, WrongField, UsedUnused, wrongSum, wrongField, unused, usedUnused, blockVerdict}
 use Rattle.sheets.specs.ByteLaws.{all-zero-tells}
 

@@ -5,18 +5,18 @@
 --     byte-sum-most, place-sum-most   how large the sums can be
 --     zero-next, zero-found, zero-none   a run of zeros, byte by byte
 -- Assumes nothing.
-use mathlib.Core.Path.{_≡_, refl, sym, ap, _∙_}
-use mathlib.Core.Bool.{Bool, true, false}
+use mathlib.Core.Path.{_≡_, refl, ap}
+use mathlib.Core.Bool.{true, false}
 use mathlib.Core.List.{List, [], _∷_, _++_}
 use Prim.Native.Nat.{ℕ, zero, suc, _+_, _-_, _*_, _/_, _%_, _^_, _≤_, _<_}
-use native.Mathlib.Nat.{add-zero, add-suc, suc-add, zero-add, mul-le-mul-left, mul-le-mul-right, mul-comm}
+use native.Mathlib.Nat.{add-zero, mul-le-mul-left, mul-le-mul-right}
 use native.Mathlib.Numerals.{add-one}
 use native.Mathlib.Omega.{arith}
 use lib.Dec.{eqb}
 use lib.ListN.{length, getD, take, drop}
 use lib.Seq.{drop-cons, take-suc, length-take-le, slice-cons, slice-empty}
 use borrow.Author.Tests.{eq-eqb, ne-eqb}
-use Rattle.lists.specs.Pick.{both, Tells}
+use Rattle.lists.specs.Pick.{Tells}
 use Rattle.lists.specs.Telling.{tells-both, tells-eq, tells-yes}
 use Rattle.sheets.specs.Bytes.{AreBytes, bytes, value, word, byteSum, placeSum, AllZero, allZero}
 

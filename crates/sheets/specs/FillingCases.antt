@@ -1,7 +1,7 @@
 -- A CASE OF A BLOCK THAT IS WRITTEN. Document 01, "Bench sheet": "the empty book has sums 1 and 3".
 -- Assumes nothing.
 use mathlib.Core.Path.{_≡_, refl}
-use mathlib.Core.List.{List, [], _∷_}
+use mathlib.Core.List.{[], _∷_}
 use lib.ListN.{drop}
 use Rattle.sheets.specs.Bytes.{bytes, byteSum, placeSum}
 use Rattle.sheets.specs.Layout.{firstEdition, sumPlace, blocksOf, recordsOf}

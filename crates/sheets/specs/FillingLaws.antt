@@ -6,16 +6,15 @@
 -- Assumes nothing.
 use mathlib.Core.Path.{_≡_, refl, sym, ap, _∙_}
 use mathlib.Core.List.{List, [], _∷_, _++_, append-assoc, append-nil}
-use Prim.Native.Nat.{ℕ, zero, suc, _+_, _-_, _*_, _≤_, _<_}
-use native.Mathlib.Numerals.{add-one}
+use Prim.Native.Nat.{ℕ, _+_, _-_, _*_, _≤_}
 use native.Mathlib.Omega.{arith}
 use lib.ListN.{length, take, drop, set, replicate, length-append, length-replicate, replicate-append-replicate, drop-of-length-le}
 use lib.Seq.{sets, sets-eq, take-at, drop-drop}
-use Rattle.sheets.specs.Bytes.{bytes, byteSum, placeSum}
-use Rattle.sheets.specs.Layout.{firstEdition, blockBytes, headBytes, sumPlace, blocksOf, recordsOf}
+use Rattle.sheets.specs.Bytes.{bytes}
+use Rattle.sheets.specs.Layout.{firstEdition, blockBytes, headBytes, sumPlace, recordsOf}
 use Rattle.sheets.specs.Runs.{runFrom, length-run, sets-on}
 use Rattle.sheets.specs.LayoutLaws.{records-most}
-use Rattle.sheets.specs.Filling.{recordOf, recordAt, headOf, bodyOf, sumsOf, blockOf}
+use Rattle.sheets.specs.Filling.{recordAt, headOf, bodyOf, sumsOf, blockOf}
 pub use Rattle.sheets.specs.RecordLaws.{length-record}
 
 pub length-head : (n b : ℕ) → length (headOf firstEdition n b) ≡ headBytes

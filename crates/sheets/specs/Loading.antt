@@ -15,14 +15,13 @@ use native.Mathlib.Omega.{arith}
 use lib.ListN.{length, getD, take, drop, set, length-append, length-drop}
 use lib.Seq.{drop-cons, length-take-le, set-at}
 use Rattle.sheets.specs.Bytes.{word}
-use Rattle.sheets.specs.Layout.{Layout, firstEdition, blockBytes, headBytes, mostN, blocksOf}
+use Rattle.sheets.specs.Layout.{Layout, firstEdition, blockBytes, mostN, blocksOf}
 use Rattle.sheets.specs.LayoutLaws.{blocks-more}
 use Rattle.sheets.specs.Block.{blockVerdict}
-use Rattle.sheets.specs.BlockLaws.{RightField}
 use Rattle.words.specs.declared.Answer.{Answer}
 use Rattle.words.specs.Answers.{refused}
 use Rattle.sheets.specs.Blocks.{badSize, blockAt, blocksIn, nOf, judgedBlocks, field, column}
-use Rattle.sheets.specs.BlocksLaws.{verdictAt, judged-right, judged-n, RightBlock, right-block, RightSize, size-tested}
+use Rattle.sheets.specs.BlocksLaws.{verdictAt, judged-right, judged-n, right-block, size-tested}
 
 module _ (bs : List ℕ) (b : ℕ) where
   pub block-long : b < blocksIn bs → length (blockAt b bs) ≡ blockBytes

@@ -9,12 +9,11 @@
 -- Assumes nothing.
 use mathlib.Core.Path.{_≡_, refl, sym, ap, _∙_}
 use mathlib.Core.List.{List, [], _∷_, _++_, append-assoc, append-nil}
-use Prim.Native.Nat.{ℕ, zero, suc, _+_, _-_, _*_, _≤_, _<_}
-use native.Mathlib.Nat.{add-zero, add-suc, suc-add, zero-mul, suc-mul, add-comm}
-use native.Mathlib.Numerals.{add-one}
+use Prim.Native.Nat.{ℕ, zero, suc, _+_, _-_, _*_, _<_}
+use native.Mathlib.Nat.{add-zero}
 use native.Mathlib.Omega.{arith}
 use lib.ListN.{length, take, drop, set, length-append, length-drop, take-append-drop}
-use lib.Seq.{sets, take-append-seam, take-at, drop-at, drop-drop, length-take-le, take-all}
+use lib.Seq.{sets, take-at, drop-at, drop-drop}
 
 unfoldable pub runFrom : (ℕ → List ℕ) → ℕ → ℕ → List ℕ
 runFrom f i zero = []

@@ -19,7 +19,7 @@ use Rattle.sheets.specs.Bytes.{bytes, value, word, byteSum, placeSum, allZero}
 use Rattle.sheets.specs.Layout.{firstEdition, blocksOf, recordsOf}
 use Rattle.sheets.specs.Runs.{runFrom}
 use Rattle.sheets.specs.Block.{wrongSum, wrongField, unused, usedUnused}
-use Rattle.sheets.specs.Filling.{recordOf, recordAt, headOf, bodyOf, sumsOf, blockOf}
+use Rattle.sheets.specs.Filling.{recordOf, recordAt, headOf, bodyOf, sumsOf}
 use Rattle.volumes.specs.Reading.{badSize, blockAt, blocksIn, nOf, blockFindings, field, column, readFindings, doneRead, readOf}
 use Rattle.meetings.specs.Check.{partner, opener, meetingOf, checked}
 use Rattle.hours.specs.Timetable.{askFindings, phase, holdsTest, holderOf, holderAnswer, candidate, nextOf, nextAnswer}

@@ -21,7 +21,7 @@ use Rattle.sheets.specs.Bytes.{bytes, value, word, byteSum, placeSum, allZero}
 use Rattle.sheets.specs.Layout.{firstEdition, blocksOf, recordsOf}
 use Rattle.sheets.specs.Runs.{runFrom}
 use Rattle.sheets.specs.Block.{wrongSum, wrongField, unused, usedUnused}
-use Rattle.sheets.specs.Filling.{recordOf, recordAt, headOf, bodyOf, sumsOf, blockOf}
+use Rattle.sheets.specs.Filling.{recordOf, recordAt, headOf, bodyOf, sumsOf}
 use Rattle.volumes.specs.Reading.{badSize, blockAt, blocksIn, nOf, blockFindings, field, column, readFindings, doneRead, readOf}
 use Rattle.meetings.specs.Check.{partner, opener, meetingOf, checked}
 use Rattle.questions.specs.Replies.{repliesOf, readIn, replyOf}
@@ -29,7 +29,7 @@ use Rattle.text.specs.Text.{letters, digitsThen, decimal, spaced, printedLine}
 use Rattle.lines.specs.Lines.{answerLine, checkLine}
 use Rattle.lines.specs.Laws.{mostCheck}
 use Rattle.paper.specs.Printed.{planPage, checkPage}
-use Rattle.paper.specs.Paper.{mostPlan, Paper, paper, Prints, printOf, PlanPrints, CheckPrints}
+use Rattle.paper.specs.Paper.{mostPlan, Paper, paper, printOf, PlanPrints, CheckPrints}
 use Rattle.paper.proofs.Promises.{print-unique, print-total}
 use Rattle.shut_out.specs.Claims.{Claim, claim, Each, Settled, sameAnswer, same-answer-tells, sameList, same-list-tells, all-settled}
 use Rattle.shut_out.specs.Read.{summed, two}

@@ -4,22 +4,21 @@
 --     eight-sound               8 with index i: it stops at i, and the fills are those rows
 --     eight-complete            it stops at i: 8 with index i
 -- Assumes nothing.
-use mathlib.Core.Path.{_≡_, refl, sym, ap, _∙_}
+use mathlib.Core.Path.{_≡_, refl, ap}
 use mathlib.Core.Bool.{Bool, true, false}
 use mathlib.Core.List.{List, [], _∷_, _++_}
-use Prim.Native.Nat.{ℕ, _*_, _≤_, _<_}
+use Prim.Native.Nat.{ℕ, _*_, _<_}
 use native.Mathlib.Decide.{decLt}
 use native.Mathlib.Omega.{arith}
 use lib.Dec.{ltb}
 use lib.ListN.{getD, set}
-use borrow.Author.Tests.{ltb-true, ltb-false, le-ltb}
-use Rattle.lists.specs.Pick.{pick}
+use borrow.Author.Tests.{ltb-false, le-ltb}
 use Rattle.lists.specs.Lowest.{Lowest}
 use Rattle.words.specs.declared.Answer.{Answer}
 use Rattle.words.specs.Answers.{refused, done}
 use Rattle.probes.specs.Table.{shortest, height}
 use Rattle.stack.specs.Stack.{raised, Fits, bins}
-use Rattle.stack.specs.FirstFit.{Outcome, outcome, marked, binOf, startIn, fitted}
+use Rattle.stack.specs.FirstFit.{binOf, startIn, fitted}
 use Rattle.stack.specs.Fitting.{lowest-bin}
 
 module _ (Ts qs : List ℕ) where

@@ -8,11 +8,10 @@
 --     planned Ts ps ss fs   what the planner does to any table and any lent columns
 -- Edges: entries of the columns past n and past H stay; a refusal by 1 to 7 changes nothing; the empty table is done at once.
 -- Assumes nothing.
-use mathlib.Core.Path.{_≡_}
 use mathlib.Core.Logic.{_⊎_}
-use mathlib.Core.Bool.{Bool, not}
+use mathlib.Core.Bool.{not}
 use mathlib.Core.List.{List, [], _∷_, _++_}
-use Prim.Native.Nat.{ℕ, _+_, _*_, _/_, _<_}
+use Prim.Native.Nat.{ℕ, _+_, _*_, _<_}
 use lib.Dec.{ltb, eqb}
 use lib.ListN.{length, getD, set, drop, replicate}
 use Rattle.lists.specs.Pick.{pick, either}

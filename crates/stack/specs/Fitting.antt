@@ -4,13 +4,13 @@
 --     fitted-holds              first fit gives such an outcome
 --     order-coming              the planning order comes after nothing
 -- Assumes nothing.
-use mathlib.Core.Path.{_≡_, refl, sym, ap, _∙_}
-use mathlib.Core.Logic.{_⊎_, inl, inr, _≢_}
+use mathlib.Core.Path.{_≡_, refl, sym, _∙_}
+use mathlib.Core.Logic.{_⊎_, inl, inr}
 use mathlib.Core.Bool.{Bool, true, false}
 use mathlib.Core.List.{List, [], _∷_}
 use Prim.Native.Nat.{ℕ, zero, suc, _+_, _-_, _*_, _/_, _≤_, _<_, _∣_}
 use native.Mathlib.Nat.{dvd-mul-right}
-use native.Mathlib.Decide.{decLt, ℕ-discrete}
+use native.Mathlib.Decide.{ℕ-discrete}
 use native.Mathlib.Omega.{arith}
 use lib.Dec.{ltb}
 use lib.ListN.{length, getD, set, drop, length-set, drop-of-length-le}
@@ -18,20 +18,18 @@ use lib.Seq.{getD-set-same, getD-set-other, drop-cons}
 use borrow.Author.Tests.{ltb-true, ltb-false}
 use Rattle.lists.specs.Pick.{pick, In}
 use Rattle.lists.specs.Telling.{tells-le}
-use Rattle.lists.specs.Lowest.{Lowest, lowest, lowest-meets}
+use Rattle.lists.specs.Lowest.{Lowest, lowest-meets}
 use Rattle.lists.specs.Sums.{sumOf}
 use Rattle.lists.specs.Harmonic.{Harmonic, Positive}
-use Rattle.words.specs.declared.Answer.{Answer}
 use Rattle.words.specs.Answers.{refused, done, mark}
-use Rattle.probes.specs.Table.{shortest, rows, height}
+use Rattle.probes.specs.Table.{shortest, height}
 use Rattle.order.specs.Order.{Before, order}
 use Rattle.order.specs.Listed.{order-length, order-probe, order-sorted, order-apart}
 use Rattle.stack.specs.Stack.{raised, Fits, fits, bins, lowestBin}
 use Rattle.stack.specs.FirstFit.{Outcome, outcome, marked, binOf, startIn, fitted}
-use Rattle.stack.specs.Packing.{CoversAt}
 use Rattle.stack.specs.Rectangles.{heights-times}
 use Rattle.stack.specs.Rows.{sum}
-use Rattle.stack.specs.Placing.{busyAt, Stands, Placing, placing-step}
+use Rattle.stack.specs.Placing.{busyAt, Placing, placing-step}
 
 -- the lowest sub-bin with room, by its meaning
 pub lowest-bin : (fs : List ℕ) (h q w : ℕ) → Lowest (Fits fs h q w) (bins fs h) (lowestBin fs h q w)

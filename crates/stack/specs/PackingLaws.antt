@@ -5,26 +5,26 @@
 --     packs-clean           the verdict, with its move to o, is the same as Clean, for every harmonic table and every list of starts below their periods
 -- Edges: the empty table packs and is clean.
 -- Assumes nothing.
-use mathlib.Core.Path.{_≡_, refl, sym, ap, _∙_}
+use mathlib.Core.Path.{_≡_, sym, ap, _∙_}
 use mathlib.Core.Logic.{_↔_, _≢_}
 use mathlib.Core.List.{List}
-use Prim.Native.Nat.{ℕ, _+_, _-_, _%_, _≤_, _<_, _∣_}
+use Prim.Native.Nat.{ℕ, _+_, _-_, _%_, _≤_, _<_}
 use native.Mathlib.Nat.{add-mod-right, mod-eq-of-lt, zero-add, sub-zero}
 use native.Mathlib.Decide.{decLe, ℕ-discrete}
 use native.Mathlib.Omega.{arith}
 use lib.ListN.{length, getD}
 use Rattle.lists.specs.Harmonic.{Harmonic, Positive}
-use Rattle.wire.specs.Wire.{Holds, HoldsAt, NeverMeet, Clean}
+use Rattle.wire.specs.Wire.{NeverMeet, Clean}
 use Rattle.wire.specs.Meeting.{lag, Apart, moved}
 use Rattle.wire.specs.Lag.{lag-unique, lag-below}
 use Rattle.wire.specs.Apartness.{apart-sound, apart-complete, never-meet-swap}
-use Rattle.wire.specs.Moving.{length-moved, moved-at, moved-lt, clean-moved}
+use Rattle.wire.specs.Moving.{moved-at, moved-lt, clean-moved}
 use Rattle.probes.specs.Table.{shortest}
 use Rattle.probes.specs.Heights.{shortest-positive}
-use Rattle.chain.specs.Corners.{cornerX, cornerY}
-use Rattle.order.specs.Order.{first, IsFirst}
+use Rattle.chain.specs.Corners.{cornerX}
+use Rattle.order.specs.Order.{first}
 use Rattle.order.specs.Following.{first-is, first-shortest}
-use Rattle.stack.specs.Packing.{Covers, CoversAt, Inside, NoOverlap, origin, Packs}
+use Rattle.stack.specs.Packing.{CoversAt, Inside, NoOverlap, origin, Packs}
 use Rattle.stack.specs.Rectangles.{cells-apart, apart-cells}
 
 module _ (Ts qs zs : List ℕ) (ha : Harmonic Ts) (pos : Positive qs (length Ts)) where

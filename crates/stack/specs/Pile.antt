@@ -6,14 +6,13 @@
 --     line-never            two reads on the same line of H rows, each inside the width, never meet on the wire: their starts are those of their corners, rows taken within the line
 --     lines-meet            and of two lines nothing of the kind: period 10, length 10 twice over two rows have the start 0 each, and meet
 -- Assumes nothing.
-use mathlib.Core.Path.{_≡_, refl, sym, ap, _∙_}
+use mathlib.Core.Path.{_≡_, sym, ap, _∙_}
 use mathlib.Core.List.{List, [], _∷_}
 use Prim.Native.Nat.{ℕ, zero, suc, _+_, _-_, _*_, _/_, _%_, _≤_, _<_, _∣_}
-use native.Mathlib.Nat.{div-eq-of-lt-le, add-mul, one-mul, mul-div-cancel, div-add-mod', mod-lt, dvd-mod-iff, dvd-mul-right, mod-eq-of-lt}
+use native.Mathlib.Nat.{div-eq-of-lt-le, add-mul, one-mul, mul-div-cancel, div-add-mod', mod-lt, dvd-mod-iff, dvd-mul-right}
 use native.Mathlib.Decide.{decLt, decLe}
 use native.Mathlib.Omega.{arith}
 use lib.ListN.{length, getD, replicate, length-replicate, getD-replicate}
-use Rattle.lists.specs.Sums.{sumOf}
 use Rattle.lists.specs.Harmonic.{Harmonic, Positive}
 use Rattle.wire.specs.Wire.{NeverMeet}
 use Rattle.probes.specs.Table.{shortest, rows, height}

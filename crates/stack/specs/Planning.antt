@@ -8,8 +8,8 @@
 use mathlib.Core.Path.{_≡_, refl, sym, ap, _∙_}
 use mathlib.Core.Logic.{_⊎_, inl, inr, _≢_}
 use mathlib.Core.List.{List, [], _∷_}
-use Prim.Native.Nat.{ℕ, zero, suc, _+_, _-_, _*_, _/_, _%_, _≤_, _<_, _∣_, max}
-use native.Mathlib.Nat.{mul-comm, mul-assoc, mod-add-div, div-lt-iff-lt-mul, mul-div-cancel, mul-div-cancel-left, mul-le-mul-left, mul-le-mul-right, div-mul-le-self, le-max-left, le-max-right, dvd-mul-right}
+use Prim.Native.Nat.{ℕ, zero, suc, _+_, _-_, _*_, _/_, _≤_, _<_}
+use native.Mathlib.Nat.{mul-comm, mod-add-div, div-lt-iff-lt-mul, mul-div-cancel, mul-div-cancel-left, mul-le-mul-left, div-mul-le-self, le-max-left, le-max-right}
 use native.Mathlib.Decide.{ℕ-discrete, decLe}
 use native.Mathlib.Omega.{arith}
 use lib.ListN.{length, getD, replicate}
@@ -25,12 +25,12 @@ use Rattle.probes.specs.Heights.{height-positive, height-times, rows-slots, slo
 use Rattle.chain.specs.Corners.{cornerX}
 use Rattle.order.specs.Order.{order}
 use Rattle.order.specs.Listed.{order-length, order-once, order-sum}
-use Rattle.stack.specs.Stack.{Fits, bins}
+use Rattle.stack.specs.Stack.{bins}
 use Rattle.stack.specs.FirstFit.{Outcome, fitted}
 use Rattle.stack.specs.Room.{busyOf, busyTicks, longestRead, Room}
 use Rattle.stack.specs.Rows.{sum}
 use Rattle.stack.specs.PackingLaws.{pair-never}
-use Rattle.stack.specs.Placing.{busyAt, Stands, Placing, placing-start, stands-inside}
+use Rattle.stack.specs.Placing.{busyAt, Stands, placing-start, stands-inside}
 use Rattle.stack.specs.Fitting.{Stuck, Fitted, fitted-holds, order-coming}
 
 unfoldable pub fit : List ℕ → List ℕ → List ℕ → List ℕ → Outcome

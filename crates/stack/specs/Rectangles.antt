@@ -6,22 +6,22 @@
 --     apart-cells           never meeting: no cell in common
 -- The flip is known by its bound, its inverse and the prefix law alone.
 -- Assumes nothing.
-use mathlib.Core.Path.{_≡_, refl, sym, ap, _∙_}
+use mathlib.Core.Path.{_≡_, sym, ap, _∙_}
 use mathlib.Core.List.{List}
 use Prim.Native.Nat.{ℕ, zero, suc, _+_, _-_, _*_, _/_, _%_, _≤_, _<_, _∣_, max}
-use native.Mathlib.Nat.{mul-comm, mul-assoc, mod-add-div, mod-lt, mod-eq-of-lt, div-lt-iff-lt-mul, div-div-eq-div-mul, div-eq-of-lt-le, mul-div-cancel', dvd-of-mul-dvd-mul-left, eq-of-mul-eq-mul-right, div-mul-le-self, lt-div-mul-add, mul-div-cancel-left, zero-add, le-of-dvd, mul-le-mul-left, add-mul, one-mul}
-use native.Mathlib.Decide.{decLt, decLe, ℕ-discrete}
+use native.Mathlib.Nat.{mul-comm, mod-add-div, mod-lt, mod-eq-of-lt, div-lt-iff-lt-mul, div-div-eq-div-mul, div-eq-of-lt-le, mul-div-cancel', dvd-of-mul-dvd-mul-left, eq-of-mul-eq-mul-right, div-mul-le-self, lt-div-mul-add, mul-div-cancel-left, zero-add, le-of-dvd, add-mul, one-mul}
+use native.Mathlib.Decide.{decLe, ℕ-discrete}
 use native.Mathlib.Omega.{arith}
 use lib.ListN.{length, getD}
 use Rattle.lists.specs.Harmonic.{Harmonic}
 use Rattle.wire.specs.Meeting.{lag, Apart}
 use Rattle.wire.specs.Lag.{lag-unique}
-use Rattle.probes.specs.Table.{shortest, longest, rows, height}
-use Rattle.probes.specs.Heights.{shortest-positive, shortest-divides, slots-times, height-positive, rows-slots}
+use Rattle.probes.specs.Table.{shortest, height}
+use Rattle.probes.specs.Heights.{shortest-positive, slots-times, height-positive, rows-slots}
 use Rattle.chain.specs.Digits.{AllPositive}
 use Rattle.chain.specs.Flip.{flip}
 use Rattle.chain.specs.Products.{Level}
-use Rattle.chain.specs.Flip.Laws.{flip-below, flip-injective, flip-prefix}
+use Rattle.chain.specs.Flip.Laws.{flip-injective, flip-prefix}
 use Rattle.chain.specs.Ratios.{ratios}
 use Rattle.chain.specs.RatioLaws.{ratios-level, ratios-positive}
 use Rattle.chain.specs.Corners.{cornerX, cornerY}

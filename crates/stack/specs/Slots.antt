@@ -3,13 +3,12 @@
 --     far-apart             where c is not 0, they never meet
 --     near-apart            where c is 0, they never meet exactly when their places are apart
 -- Document 000, Lemma 1. Assumes nothing.
-use mathlib.Core.Path.{_≡_, refl, sym, ap, _∙_}
-use mathlib.Core.Logic.{_↔_}
-use Prim.Native.Nat.{ℕ, zero, suc, _+_, _-_, _*_, _/_, _%_, _≤_, _<_}
-use native.Mathlib.Nat.{mul-comm, add-mul-div-left, add-mul-mod-self-left, mod-eq-of-lt, div-eq-of-lt, mul-le-mul-left, mul-pos, add-mod-right, mul-add, add-mod, zero-add, mod-lt}
+use mathlib.Core.Path.{_≡_, sym, ap, _∙_}
+use Prim.Native.Nat.{ℕ, _+_, _-_, _*_, _/_, _%_, _≤_, _<_}
+use native.Mathlib.Nat.{mul-comm, add-mul-div-left, add-mul-mod-self-left, mod-eq-of-lt, div-eq-of-lt, mul-le-mul-left, add-mod-right, zero-add}
 use native.Mathlib.Decide.{decLe}
 use native.Mathlib.Omega.{arith}
-use lib.Arith.{mod-mul, digits-lt}
+use lib.Arith.{mod-mul}
 use Rattle.wire.specs.Meeting.{lag, Apart}
 use Rattle.wire.specs.Lag.{lag-unique, lag-back, lag-lt}
 

@@ -5,11 +5,10 @@
 --     printedLine ..        a line ends with a newline
 -- Differs from the words: the digits are taken from a number's remainder by 10 while there are any, at most twenty of them, which is enough for 64 bits.
 -- Assumes nothing.
-use mathlib.Core.Bool.{Bool}
 use mathlib.Core.List.{List, [], _∷_, _++_}
 use Prim.Native.Nat.{ℕ, zero, suc, _+_, _/_, _%_}
 use Prim.Native.String.{String}
-use Prim.Native.Char.{Char, code}
+use Prim.Native.Char.{code}
 use lib.Dec.{eqb}
 use Rattle.lists.specs.Pick.{pick}
 

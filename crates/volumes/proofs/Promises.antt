@@ -3,16 +3,14 @@
 use mathlib.Core.Path.{_≡_, refl, sym, ap, _∙_}
 use mathlib.Core.Logic.{_⊎_, inl, inr, ⊎-elim}
 use mathlib.Core.List.{List, [], _∷_, _++_}
-use Prim.Native.Nat.{ℕ, zero, suc, _*_, _≤_, _<_}
-use native.Mathlib.Omega.{arith}
+use Prim.Native.Nat.{ℕ, _≤_}
 use lib.ListN.{length, take, drop}
 use Rattle.lists.specs.Pick.{In}
-use Rattle.lists.specs.Refusals.{whole, numbers, first-unique, first-numbers}
-use Rattle.words.specs.declared.Answer.{Answer}
+use Rattle.lists.specs.Refusals.{whole, first-unique, first-numbers}
 use Rattle.words.specs.Answers.{refused}
 use Rattle.sheets.specs.Bytes.{AreBytes, AreWords}
-use Rattle.sheets.specs.Layout.{Layout, firstEdition, blockBytes, mostN, blocksOf}
-use Rattle.volumes.specs.Reading.{Columns, columns, blockLines, blocksIn, ShortColumn, readLines, refusedRead, doneRead, Reads, readOf}
+use Rattle.sheets.specs.Layout.{Layout, firstEdition, mostN}
+use Rattle.volumes.specs.Reading.{Columns, columns, blocksIn, ShortColumn, readLines, refusedRead, doneRead, Reads, readOf}
 use Rattle.volumes.specs.Writing.{Pages, pages, bookOf, writeLines, refusedWrite, doneWrite, Writes, writeOf}
 use Rattle.sheets.specs.BlocksLaws.{block-numbers}
 use Rattle.volumes.specs.ReadLaws.{read-meets}

@@ -1,9 +1,8 @@
 -- CASES OF THE BOOK. Document 01, "The book" and "Bench sheet".
 -- Assumes nothing.
 use mathlib.Core.Path.{_≡_, refl}
-use mathlib.Core.List.{List, [], _∷_}
-use lib.ListN.{length, replicate, drop}
-use Prim.Native.Nat.{ℕ}
+use mathlib.Core.List.{[], _∷_}
+use lib.ListN.{length, replicate}
 use Rattle.lists.specs.Answering.{firstOf}
 use Rattle.words.specs.Answers.{refused}
 use Rattle.sheets.specs.Bytes.{bytes, value, word, byteSum, placeSum, allZero}

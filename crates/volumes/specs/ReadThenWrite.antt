@@ -3,24 +3,22 @@
 --     book-back             a book that is read is the book that is written from its columns
 -- Assumes nothing.
 use mathlib.Core.Path.{_≡_, refl, sym, ap, _∙_}
-use mathlib.Core.Logic.{_⊎_, inl, inr}
+use mathlib.Core.Logic.{inl, inr}
 use mathlib.Core.Bool.{Bool, true, false}
-use mathlib.Core.List.{List, [], _∷_, _++_, append-assoc}
-use Prim.Native.Nat.{ℕ, zero, suc, _+_, _-_, _*_, _/_, _%_, _≤_, _<_}
+use mathlib.Core.List.{List}
+use Prim.Native.Nat.{ℕ, _+_, _-_, _*_, _/_, _%_, _≤_, _<_}
 use native.Mathlib.Nat.{zero-add}
 use native.Mathlib.Omega.{arith}
 use lib.ListN.{length, getD, take, drop, replicate, take-append-drop, length-drop}
-use lib.Seq.{take-add, take-take, drop-drop, length-take-le, take-all}
-use Rattle.lists.specs.Pick.{Tells}
-use Rattle.lists.specs.Telling.{tells-true}
+use lib.Seq.{take-take, drop-drop, length-take-le, take-all}
 use Rattle.sheets.specs.Bytes.{AreBytes, bytes, word, byteSum, placeSum, AllZero, allZero}
-use Rattle.sheets.specs.Layout.{Layout, firstEdition, blockBytes, headBytes, sumPlace, sumPlace2, mostN, blocksOf, recordsOf}
+use Rattle.sheets.specs.Layout.{firstEdition, blockBytes, blocksOf, recordsOf}
 use Rattle.sheets.specs.Runs.{runFrom, run-of}
 use Rattle.sheets.specs.ByteLaws.{all-zero-tells}
 use Rattle.sheets.specs.LayoutLaws.{records-most, records-end}
 use Rattle.sheets.specs.Pieces.{join, part-of-take, bytes-part, bytes-word, word-part, zero-zeros}
-use Rattle.sheets.specs.Block.{WrongSum, UsedUnused, unused}
-use Rattle.sheets.specs.BlockLaws.{same-number, RightField}
+use Rattle.sheets.specs.Block.{unused}
+use Rattle.sheets.specs.BlockLaws.{same-number}
 use Rattle.sheets.specs.Filling.{recordOf, recordAt, headOf, bodyOf, sumsOf, blockOf}
 use Rattle.sheets.specs.FillingLaws.{length-record, length-block}
 use Rattle.volumes.specs.Reading.{blockAt, blocksIn, nOf, field, column}

@@ -5,27 +5,26 @@
 use mathlib.Core.Path.{_≡_, refl, sym, ap, _∙_}
 use mathlib.Core.Logic.{_⊎_, inl, inr, ⊎-elim}
 use mathlib.Core.Bool.{Bool, true, false}
-use mathlib.Core.List.{List, [], _∷_, _++_}
-use Prim.Native.Nat.{ℕ, zero, suc, _+_, _-_, _*_, _/_, _%_, _≤_, _<_}
+use mathlib.Core.List.{List, _++_}
+use Prim.Native.Nat.{ℕ, suc, _+_, _-_, _*_, _≤_, _<_}
 use native.Mathlib.Decide.{decLt, ℕ-discrete}
 use native.Mathlib.Omega.{arith}
-use lib.ListN.{length, getD, take, drop, length-append, length-drop}
-use lib.Seq.{take-at, length-take-le}
-use Rattle.lists.specs.Telling.{tells-true, tells-false, true-or-false}
+use lib.ListN.{length, take, drop}
+use lib.Seq.{take-at}
+use Rattle.lists.specs.Telling.{tells-false}
 use Rattle.words.specs.declared.Answer.{Answer}
 use Rattle.words.specs.Answers.{refused}
 use Rattle.sheets.specs.Bytes.{AreBytes, AreWords}
-use Rattle.sheets.specs.Layout.{Layout, firstEdition, blockBytes, mostN, blocksOf}
+use Rattle.sheets.specs.Layout.{firstEdition, blockBytes, mostN, blocksOf}
 use Rattle.sheets.specs.LayoutLaws.{blocks-some, blocks-least}
-use Rattle.sheets.specs.BlockLaws.{RightField}
-use Rattle.volumes.specs.Reading.{BadSize, badSize, blockAt, blocksIn, nOf, judgedBlocks, column, Columns, columns, ShortColumn, refusedRead, doneRead, Reads, readOf}
+use Rattle.volumes.specs.Reading.{BadSize, badSize, blocksIn, nOf, judgedBlocks, column, Columns, columns, ShortColumn, refusedRead, doneRead, Reads, readOf}
 use Rattle.volumes.specs.Writing.{bookOf, Pages, pages, refusedWrite, doneWrite, Writes, writeOf}
-use Rattle.sheets.specs.BlocksLaws.{verdictAt, judged-right, right-judged, RightSize, size-tested, bad-size-tells}
-use Rattle.sheets.specs.Loading.{Passed, passed, length-column}
-use Rattle.volumes.specs.ReadLaws.{read-size, read-block, read-short, read-done, read-meets, reads-as}
-use Rattle.volumes.specs.WriteLaws.{length-book, write-starts, write-lengths, write-many, write-short, write-done, write-meets, writes-as}
+use Rattle.sheets.specs.BlocksLaws.{judged-right, right-judged, size-tested, bad-size-tells}
+use Rattle.sheets.specs.Loading.{passed, length-column}
+use Rattle.volumes.specs.ReadLaws.{read-size, read-block, read-short, read-done, reads-as}
+use Rattle.volumes.specs.WriteLaws.{length-book, write-starts, write-lengths, write-many, write-short, write-done, writes-as}
 use Rattle.volumes.specs.ReadThenWrite.{book-back, count-is}
-use Rattle.volumes.specs.WriteThenRead.{blocks-there, n-there, book-passes, periods-back, lengths-back, starts-back}
+use Rattle.volumes.specs.WriteThenRead.{n-there, book-passes, periods-back, lengths-back, starts-back}
 
 -- a done reading: no check applied
 module _ (bs Ts ps ss : List ℕ) where

@@ -2,20 +2,15 @@
 --     write-differ, ..      the ways out
 --     write-meets           writeOf meets Writes
 -- Assumes nothing.
-use mathlib.Core.Path.{_≡_, refl, sym, ap, _∙_}
-use mathlib.Core.Logic.{_⊎_, inl, inr, _≢_}
-use mathlib.Core.Bool.{Bool, true, false, not}
-use mathlib.Core.List.{List, [], _∷_, _++_, append-assoc}
+use mathlib.Core.Path.{_≡_, refl, ap, _∙_}
+use mathlib.Core.List.{List, _++_}
 use Prim.Native.Nat.{ℕ, _+_, _-_, _*_, _≤_, _<_}
 use native.Mathlib.Omega.{arith}
-use lib.Dec.{ltb, eqb}
-use lib.ListN.{length, take, drop}
+use lib.ListN.{length, drop}
 use lib.Seq.{sets, sets-eq}
 use borrow.Author.Tests.{eq-eqb, ne-eqb, lt-ltb, le-ltb}
-use Rattle.lists.specs.Pick.{pick, either, Tells}
 use Rattle.lists.specs.Telling.{tells-either, tells-not, tells-lt, tells-eq}
-use Rattle.lists.specs.Refusals.{whole}
-use Rattle.lists.specs.Answering.{AllFind, tested, firstOf, first-of, finds-whole}
+use Rattle.lists.specs.Answering.{AllFind, firstOf, first-of, finds-whole}
 use Rattle.words.specs.declared.Answer.{Answer}
 use Rattle.words.specs.Answers.{refused}
 use Rattle.sheets.specs.Layout.{Layout, firstEdition, blockBytes, mostN, blocksOf}

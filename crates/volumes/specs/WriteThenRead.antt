@@ -4,24 +4,23 @@
 --     column-back           its columns are those that were written
 -- Assumes nothing.
 use mathlib.Core.Path.{_≡_, refl, sym, ap, _∙_}
-use mathlib.Core.Logic.{_⊎_, inl, inr}
-use mathlib.Core.List.{List, [], _∷_, _++_, append-assoc}
-use Prim.Native.Nat.{ℕ, zero, suc, _+_, _-_, _*_, _/_, _%_, _≤_, _<_}
+use mathlib.Core.Logic.{inl, inr}
+use mathlib.Core.List.{List, _++_}
+use Prim.Native.Nat.{ℕ, _+_, _-_, _*_, _/_, _%_, _≤_, _<_}
 use native.Mathlib.Nat.{zero-add, div-add-mod'}
 use native.Mathlib.Decide.{decLt}
 use native.Mathlib.Omega.{arith}
-use lib.ListN.{length, getD, take, drop, replicate, length-append}
+use lib.ListN.{length, getD, take, drop, replicate}
 use lib.Seq.{drop-drop, take-at, drop-at, ext-getD}
-use Rattle.sheets.specs.Bytes.{AreBytes, AreWords, bytes, value, word, byteSum, placeSum, AllZero}
-use Rattle.sheets.specs.Layout.{Layout, firstEdition, blockBytes, headBytes, sumPlace, sumPlace2, mostN, blocksOf, recordsOf}
+use Rattle.sheets.specs.Bytes.{AreBytes, AreWords, bytes, word, byteSum, placeSum}
+use Rattle.sheets.specs.Layout.{firstEdition, mostN, blocksOf, recordsOf}
 use Rattle.sheets.specs.Runs.{runFrom, length-run, run-piece}
 use Rattle.sheets.specs.ByteLaws.{value-bytes, byte-sum-most, place-sum-most}
-use Rattle.sheets.specs.LayoutLaws.{blocks-few, blocks-room, blocks-least, records-most, records-full, records-rest}
+use Rattle.sheets.specs.LayoutLaws.{blocks-few, blocks-room, records-most, records-full, records-rest}
 use Rattle.sheets.specs.Pieces.{part-of-take, part-of-left, word-part, bytes-are, append-are, run-are, zeros-are, zeros-zero}
-use Rattle.sheets.specs.Block.{WrongSum, UsedUnused, unused}
-use Rattle.sheets.specs.BlockLaws.{RightField}
+use Rattle.sheets.specs.Block.{WrongSum, unused}
 use Rattle.sheets.specs.Filling.{recordOf, recordAt, headOf, bodyOf, sumsOf, blockOf}
-use Rattle.sheets.specs.FillingLaws.{length-record, length-head, length-sums, length-body, length-block}
+use Rattle.sheets.specs.FillingLaws.{length-record, length-head, length-body, length-block}
 use Rattle.volumes.specs.Reading.{blockAt, blocksIn, nOf, field, column}
 use Rattle.sheets.specs.BlocksLaws.{verdictAt, RightBlock, block-right}
 use Rattle.sheets.specs.Loading.{length-column, column-at}

@@ -10,9 +10,9 @@
 -- Differs from the words: numbers have no negatives, so d <= T - p is d + p <= T (the same where p <= T, as soundness gives), and the remainder of
 -- s - o is taken of s + (T - o mod T).
 -- Assumes nothing.
-use mathlib.Core.Bool.{Bool, true, false}
+use mathlib.Core.Bool.{Bool, true}
 use mathlib.Core.List.{List, [], _∷_}
-use Prim.Native.Nat.{ℕ, zero, suc, _+_, _-_, _%_, _≤_, _<_}
+use Prim.Native.Nat.{ℕ, zero, suc, _+_, _-_, _%_, _≤_}
 use lib.Dec.{leb, ltb}
 use lib.ListN.{length, getD}
 use Rattle.lists.specs.Pick.{pick, both}

@@ -3,10 +3,6 @@ use borrow.Author.Needs.{needs}
 use Rattle.exports.specs.Laws.{exports-short, exports-long}
 use Rattle.answering.proofs.give.Statement.{statement}
 use Rattle.answering.proofs.give.Tie as tie
-use Rattle.answering.proofs.give.Reads as reads
-use Rattle.answering.proofs.give.Lts as lts
-use Rattle.telling.proofs.tell.Reads as tell-reads
-use Rattle.replies.proofs.reply.Reads as reply-reads
 
 returns : tie.Need-returns
 returns c = exports-short _ _ _ (c .if1 .taken)

@@ -1,23 +1,14 @@
 -- `filling::put_block` meets its contract: head, records, zeros and sums, one after another. Assumes nothing.
-use mathlib.Core.Path.{_≡_, refl, sym, ap, _∙_}
-use Prim.Native.Nat.{ℕ, _+_, _-_, _*_, _≤_}
+use mathlib.Core.Path.{ap, _∙_}
+use Prim.Native.Nat.{ℕ, _+_, _-_, _*_}
 use native.Mathlib.Omega.{arith}
 use lib.ListN.{length}
 use Rattle.sheets.specs.Layout.{firstEdition, headBytes}
 use Rattle.sheets.specs.LayoutLaws.{records-most, records-end}
-use Rattle.sheets.specs.Runs.{runFrom}
-use Rattle.sheets.specs.Filling.{recordAt}
 use Rattle.sheets.specs.FillingLaws.{filled}
 use borrow.Author.Needs.{needs}
 use Rattle.blocks.proofs.put_block.Statement.{statement}
 use Rattle.blocks.proofs.put_block.Tie as tie
-use Rattle.blocks.proofs.put_block.Reads as reads
-use Rattle.blocks.proofs.put_block.Lts as lts
-use Rattle.filling.proofs.put_head.Reads as put-head-reads
-use Rattle.records.proofs.put_records.Reads as put-records-reads
-use Rattle.filling.proofs.put_sums.Reads as put-sums-reads
-use Rattle.filling.proofs.put_zeros.Reads as put-zeros-reads
-use Rattle.edition.proofs.records_of.Reads as records-of-reads
 
 records-of-requires : tie.Need-records-of-requires
 records-of-requires c κs = search needs

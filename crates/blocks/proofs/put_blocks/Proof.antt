@@ -1,6 +1,6 @@
 -- `filling::put_blocks` meets its contract: b blocks are stored, one after another. Assumes nothing.
-use mathlib.Core.Path.{_≡_, refl, sym, ap, _∙_}
-use Prim.Native.Nat.{ℕ, _+_, _-_, _*_, _≤_, _<_}
+use mathlib.Core.Path.{_≡_, refl, ap, _∙_}
+use Prim.Native.Nat.{ℕ, _+_, _-_, _*_, _≤_}
 use native.Mathlib.Nat.{zero-add}
 use native.Mathlib.Omega.{arith}
 use lib.ListN.{length}
@@ -13,9 +13,6 @@ use Rattle.sheets.specs.FillingLaws.{length-block, part-stored}
 use borrow.Author.Needs.{needs}
 use Rattle.blocks.proofs.put_blocks.Statement.{statement}
 use Rattle.blocks.proofs.put_blocks.Tie as tie
-use Rattle.blocks.proofs.put_blocks.Reads as reads
-use Rattle.blocks.proofs.put_blocks.Lts as lts
-use Rattle.blocks.proofs.put_block.Reads as put-block-reads
 
 abbrev Inv-loop : tie.InvT-loop
 Inv-loop periods lengths starts blocks out₀ b₀ out b = (b ≤ blocks) × (out ≡ sets out₀ 0 (runFrom (blockOf firstEdition periods lengths starts) 0 b))

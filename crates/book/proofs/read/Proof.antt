@@ -1,21 +1,16 @@
 -- `book::read` meets its contract: the ways out of specs/ReadLaws, and three columns filled. Assumes nothing.
-use mathlib.Core.Path.{_≡_, refl, sym, ap, _∙_}
+use mathlib.Core.Path.{sym, ap, _∙_}
 use mathlib.Core.Logic.{inl, inr, ⊎-elim}
 use native.Mathlib.Omega.{arith}
 use Rattle.words.specs.declared.Answer.{Answer}
 use Rattle.sheets.specs.Layout.{firstEdition}
 use Rattle.volumes.specs.Reading.{columns}
 use Rattle.volumes.specs.ReadLaws.{reads-as, read-size, read-block, read-short, read-done, done-is}
-use Rattle.sheets.specs.Loading.{Passed, passed}
+use Rattle.sheets.specs.Loading.{passed}
 use borrow.Author.Needs.{needs}
 use Rattle.book.proofs.read.Statement.{statement}
 use Rattle.book.proofs.read.Tie as tie
 use Rattle.book.proofs.read.Reads as reads
-use Rattle.book.proofs.read.Lts as lts
-use Rattle.loading.proofs.bad_size.Reads as bad-size-reads
-use Rattle.loading.proofs.judge_blocks.Reads as judge-blocks-reads
-use Rattle.loading.proofs.load.Reads as load-reads
-use Rattle.words.proofs.Answer.refused.Reads as refused-reads
 
 bad-size-requires : tie.Need-bad-size-requires
 bad-size-requires c κs = search needs

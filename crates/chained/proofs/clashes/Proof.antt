@@ -1,18 +1,15 @@
 -- `chained::clashes` meets its contract: each of the first k divides x or is divided by it. Assumes nothing.
-use mathlib.Core.Path.{_≡_, refl}
 use mathlib.Core.Logic.{⊎-elim, inl, inr}
 use Prim.Native.Nat.{ℕ, _≤_, _<_, _-_}
 use native.Mathlib.Nat.{dvd-iff-mod-eq-zero}
 use native.Mathlib.Omega.{arith}
-use lib.ListN.{length, getD}
+use lib.ListN.{getD}
 use borrow.Author.Count.{below-more}
 use Rattle.lists.specs.Telling.{tells-yes, tells-no}
 use Rattle.probes.specs.Seen.{Chained}
 use borrow.Author.Needs.{needs}
 use Rattle.chained.proofs.clashes.Statement.{statement}
 use Rattle.chained.proofs.clashes.Tie as tie
-use Rattle.chained.proofs.clashes.Reads as reads
-use Rattle.chained.proofs.clashes.Lts as lts
 
 abbrev Inv-loop : tie.InvT-loop
 Inv-loop n x seen k₀ k = (k ≤ n) × ((j : ℕ) → j < k → Chained (getD seen j 0) x)

@@ -1,15 +1,13 @@
 -- `chained::is_seen` meets its contract: none of the first k equals x. Assumes nothing.
-use mathlib.Core.Path.{_≡_, refl}
+use mathlib.Core.Path.{_≡_}
 use Prim.Native.Nat.{ℕ, _≤_, _<_, _-_}
 use native.Mathlib.Omega.{arith}
-use lib.ListN.{length, getD}
+use lib.ListN.{getD}
 use borrow.Author.Count.{below-more}
 use Rattle.lists.specs.Telling.{tells-yes, tells-no}
 use borrow.Author.Needs.{needs}
 use Rattle.chained.proofs.is_seen.Statement.{statement}
 use Rattle.chained.proofs.is_seen.Tie as tie
-use Rattle.chained.proofs.is_seen.Reads as reads
-use Rattle.chained.proofs.is_seen.Lts as lts
 
 abbrev Inv-loop : tie.InvT-loop
 Inv-loop n x seen k₀ k = (k ≤ n) × ((j : ℕ) → j < k → getD seen j 0 ≡ x → ⊥)

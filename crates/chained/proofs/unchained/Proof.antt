@@ -1,9 +1,9 @@
 -- `chained::unchained` meets its contract: the kept periods are the different ones of the probes passed, and stand for every earlier probe. Assumes nothing.
 use mathlib.Core.Path.{_≡_, refl}
 use mathlib.Core.Logic.{⊎-elim}
-use Prim.Native.Nat.{ℕ, _≤_, _<_, _-_}
+use Prim.Native.Nat.{_≤_, _-_}
 use native.Mathlib.Omega.{arith}
-use lib.ListN.{length, getD, length-set}
+use lib.ListN.{length, length-set}
 use borrow.Author.Tests.{not-true, not-false}
 use Rattle.lists.specs.Lowest.{Searching, searching-start, searching-next, searching-found, searching-none}
 use Rattle.probes.specs.Chained.{unchained}
@@ -11,10 +11,6 @@ use Rattle.probes.specs.Seen.{Keeping, keeping-start, keeping-positive, keeping
 use borrow.Author.Needs.{needs}
 use Rattle.chained.proofs.unchained.Statement.{statement}
 use Rattle.chained.proofs.unchained.Tie as tie
-use Rattle.chained.proofs.unchained.Reads as reads
-use Rattle.chained.proofs.unchained.Lts as lts
-use Rattle.chained.proofs.clashes.Reads as clashes-reads
-use Rattle.chained.proofs.is_seen.Reads as is-seen-reads
 
 abbrev Inv-loop : tie.InvT-loop
 Inv-loop periods seen₀ n₀ i₀ seen n i = (n ≤ 21) × (length seen ≡ 21) × Keeping periods seen n i × Searching (unchained periods) (length periods) i

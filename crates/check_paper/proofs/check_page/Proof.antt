@@ -1,14 +1,8 @@
-use mathlib.Core.Path.{_≡_}
 use native.Mathlib.Omega.{arith}
 use Rattle.paper.specs.Laws.{check-page-is, prints-short, prints-done}
 use borrow.Author.Needs.{needs}
 use Rattle.check_paper.proofs.check_page.Statement.{statement}
 use Rattle.check_paper.proofs.check_page.Tie as tie
-use Rattle.check_paper.proofs.check_page.Reads as reads
-use Rattle.check_paper.proofs.check_page.Lts as lts
-use Rattle.first_lines.proofs.put_check.Reads as put-check-reads
-use Rattle.replies.proofs.reply.Reads as reply-reads
-use Rattle.words.proofs.Answer.refused.Reads as refused-reads
 
 refused-requires : tie.Need-refused-requires
 refused-requires c κs = search needs

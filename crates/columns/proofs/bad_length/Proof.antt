@@ -1,9 +1,8 @@
 -- `columns::bad_length` meets its contract: the places below i were tried, and their lengths are from 1 to w. Assumes nothing.
-use mathlib.Core.Path.{_≡_, refl}
 use mathlib.Core.Logic.{inl, inr}
-use Prim.Native.Nat.{ℕ, _≤_, _<_, _-_}
+use Prim.Native.Nat.{_-_}
 use native.Mathlib.Omega.{arith}
-use lib.ListN.{length, getD}
+use lib.ListN.{length}
 use Rattle.lists.specs.Lowest.{Searching, searching-start, searching-next, searching-found, searching-none}
 use Rattle.lists.specs.Telling.{tells-true, tells-false}
 use mathlib.Core.Logic.{⊎-elim}
@@ -12,8 +11,6 @@ use Rattle.probes.specs.Steps.{length-tells}
 use borrow.Author.Needs.{needs}
 use Rattle.columns.proofs.bad_length.Statement.{statement}
 use Rattle.columns.proofs.bad_length.Tie as tie
-use Rattle.columns.proofs.bad_length.Reads as reads
-use Rattle.columns.proofs.bad_length.Lts as lts
 
 abbrev Inv-loop : tie.InvT-loop
 Inv-loop lengths w i₀ i = Searching (badLength w lengths) (length lengths) i

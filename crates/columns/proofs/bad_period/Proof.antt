@@ -1,10 +1,9 @@
 -- `columns::bad_period` meets its contract: the places below i were tried and found in range. Assumes nothing.
-use mathlib.Core.Path.{_≡_, refl}
 use mathlib.Core.Logic.{inl, inr}
 use mathlib.Core.List.{[]}
-use Prim.Native.Nat.{ℕ, _≤_, _<_, _-_}
+use Prim.Native.Nat.{_-_}
 use native.Mathlib.Omega.{arith}
-use lib.ListN.{length, getD}
+use lib.ListN.{length}
 use Rattle.lists.specs.Lowest.{Searching, searching-start, searching-next, searching-found, searching-none}
 use Rattle.lists.specs.Telling.{tells-true, tells-false}
 use mathlib.Core.Logic.{⊎-elim}
@@ -13,8 +12,6 @@ use Rattle.probes.specs.Steps.{bad-period-tells}
 use borrow.Author.Needs.{needs}
 use Rattle.columns.proofs.bad_period.Statement.{statement}
 use Rattle.columns.proofs.bad_period.Tie as tie
-use Rattle.columns.proofs.bad_period.Reads as reads
-use Rattle.columns.proofs.bad_period.Lts as lts
 
 abbrev Inv-loop : tie.InvT-loop
 Inv-loop periods i₀ i = Searching (badPeriod periods) (length periods) i

@@ -1,8 +1,7 @@
 -- `columns::late` meets its contract: the places below i were tried, and their starts lie below their periods. Assumes nothing.
-use mathlib.Core.Path.{_≡_, refl}
-use Prim.Native.Nat.{ℕ, _≤_, _<_, _-_}
+use Prim.Native.Nat.{_-_}
 use native.Mathlib.Omega.{arith}
-use lib.ListN.{length, getD}
+use lib.ListN.{length}
 use Rattle.lists.specs.Lowest.{Searching, searching-start, searching-next, searching-found, searching-none}
 use Rattle.lists.specs.Telling.{tells-true, tells-false}
 use Rattle.probes.specs.Columns.{late}
@@ -10,8 +9,6 @@ use Rattle.probes.specs.Steps.{late-tells}
 use borrow.Author.Needs.{needs}
 use Rattle.columns.proofs.late.Statement.{statement}
 use Rattle.columns.proofs.late.Tie as tie
-use Rattle.columns.proofs.late.Reads as reads
-use Rattle.columns.proofs.late.Lts as lts
 
 abbrev Inv-loop : tie.InvT-loop
 Inv-loop periods starts i₀ i = Searching (late periods starts) (length periods) i

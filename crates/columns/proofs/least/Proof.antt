@@ -1,15 +1,12 @@
 -- `columns::least` meets its contract: w is the least of the periods passed, and what is left decides the rest. Assumes nothing.
-use mathlib.Core.Path.{_≡_, refl}
 use mathlib.Core.Logic.{⊎-elim}
-use Prim.Native.Nat.{ℕ, _≤_, _<_, _-_}
+use Prim.Native.Nat.{_-_}
 use native.Mathlib.Omega.{arith}
 use lib.ListN.{length}
 use Rattle.probes.specs.Steps.{Lessening, lessening-start, lessening-next, lessening-done, shortest-none}
 use borrow.Author.Needs.{needs}
 use Rattle.columns.proofs.least.Statement.{statement}
 use Rattle.columns.proofs.least.Tie as tie
-use Rattle.columns.proofs.least.Reads as reads
-use Rattle.columns.proofs.least.Lts as lts
 
 abbrev Inv-loop : tie.InvT-loop
 Inv-loop periods w₀ i₀ w i = Lessening periods w i

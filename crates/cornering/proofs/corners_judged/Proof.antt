@@ -1,20 +1,12 @@
 -- `admitting::corners_judged` meets its contract: each way out is a way of specs/Ways. Assumes nothing.
-use mathlib.Core.Path.{_≡_, refl, sym, ap, _∙_}
+use mathlib.Core.Path.{_∙_}
 use native.Mathlib.Omega.{arith}
-use lib.ListN.{length}
 use Rattle.probes.specs.Laws.{sound-gives}
 use Rattle.probes.specs.Composing.{zero-sound}
 use Rattle.admitting.specs.Ways.{corners-differ, corners-refused, corners-short-x, corners-short-y, corners-late, corners-pass}
 use borrow.Author.Needs.{needs}
 use Rattle.cornering.proofs.corners_judged.Statement.{statement}
 use Rattle.cornering.proofs.corners_judged.Tie as tie
-use Rattle.cornering.proofs.corners_judged.Reads as reads
-use Rattle.cornering.proofs.corners_judged.Lts as lts
-use Rattle.table.proofs.at_place.Reads as at-place-reads
-use Rattle.table.proofs.judge.Reads as judge-reads
-use Rattle.columns.proofs.late.Reads as late-reads
-use Rattle.words.proofs.Answer.done.Reads as done-reads
-use Rattle.words.proofs.Answer.refused.Reads as refused-reads
 
 refused-requires : tie.Need-refused-requires
 refused-requires c κs = search needs

@@ -1,19 +1,11 @@
 -- `packing::to_corners` meets its promise: the judge, and then the corners of all starts. Assumes nothing.
-use mathlib.Core.Path.{_≡_, refl, sym, ap, _∙_}
 use native.Mathlib.Omega.{arith}
-use lib.ListN.{length}
 use Rattle.probes.specs.Laws.{sound-gives}
 use Rattle.grid.specs.Laws.{prepared-of}
-use Rattle.rectangles.specs.Ends.{CornersReady, corners-ready, corners-refused-end, corners-end}
+use Rattle.rectangles.specs.Ends.{corners-ready, corners-refused-end, corners-end}
 use borrow.Author.Needs.{needs}
 use Rattle.cornering.proofs.to_corners.Statement.{statement}
 use Rattle.cornering.proofs.to_corners.Tie as tie
-use Rattle.cornering.proofs.to_corners.Reads as reads
-use Rattle.cornering.proofs.to_corners.Lts as lts
-use Rattle.flipping.proofs.Chain.of.Reads as Chain-of-reads
-use Rattle.plotting.proofs.write_corners.Reads as write-corners-reads
-use Rattle.cornering.proofs.corners_judged.Reads as corners-judged-reads
-use Rattle.table.proofs.Table.of.Reads as Table-of-reads
 
 corners-judged-requires : tie.Need-corners-judged-requires
 corners-judged-requires c κs = search needs

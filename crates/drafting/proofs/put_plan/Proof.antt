@@ -1,18 +1,10 @@
-use mathlib.Core.Path.{_≡_, refl, sym, ap, _∙_}
+use mathlib.Core.Path.{sym, _∙_}
 use native.Mathlib.Omega.{arith}
 use Rattle.text.specs.Putting.{put-length, put-on}
 use Rattle.paper.specs.Laws.{plan-same, plan-refused, plan-lines}
 use borrow.Author.Needs.{needs}
 use Rattle.drafting.proofs.put_plan.Statement.{statement}
 use Rattle.drafting.proofs.put_plan.Tie as tie
-use Rattle.drafting.proofs.put_plan.Reads as reads
-use Rattle.drafting.proofs.put_plan.Lts as lts
-use Rattle.first_lines.proofs.put_answer.Reads as put-answer-reads
-use Rattle.first_lines.proofs.put_head.Reads as put-head-reads
-use Rattle.probe_lines.proofs.put_probes.Reads as put-probes-reads
-use Rattle.packing.proofs.plan.Reads as plan-reads
-use Rattle.drafting.proofs.ran.Reads as ran-reads
-use Rattle.table.proofs.Table.of.Reads as of-reads
 
 slice-aggregate-plan : tie.Need-slice-aggregate-plan
 slice-aggregate-plan c = search needs

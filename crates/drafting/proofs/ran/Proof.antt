@@ -1,10 +1,7 @@
 use borrow.Author.Tests.{eq-eqb, ne-eqb}
 use Rattle.paper.specs.Printed.{ran}
-use borrow.Author.Needs.{needs}
 use Rattle.drafting.proofs.ran.Statement.{statement}
 use Rattle.drafting.proofs.ran.Tie as tie
-use Rattle.drafting.proofs.ran.Reads as reads
-use Rattle.drafting.proofs.ran.Lts as lts
 
 returns : tie.Need-returns
 unfolding ran

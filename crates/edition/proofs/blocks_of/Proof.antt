@@ -1,13 +1,10 @@
 -- `sheets::blocks_of` meets its contract. Assumes nothing.
 use mathlib.Core.Path.{sym}
-use native.Mathlib.Omega.{arith}
 use Rattle.sheets.specs.Layout.{firstEdition}
 use Rattle.sheets.specs.LayoutLaws.{blocks-none, blocks-more}
 use borrow.Author.Needs.{needs}
 use Rattle.edition.proofs.blocks_of.Statement.{statement}
 use Rattle.edition.proofs.blocks_of.Tie as tie
-use Rattle.edition.proofs.blocks_of.Reads as reads
-use Rattle.edition.proofs.blocks_of.Lts as lts
 
 returns : tie.Need-returns
 returns c = sym (blocks-none firstEdition _ (c .if1 .taken))

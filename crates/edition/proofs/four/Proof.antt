@@ -5,8 +5,6 @@ use Rattle.sheets.specs.ByteLaws.{word-four}
 use borrow.Author.Needs.{needs}
 use Rattle.edition.proofs.four.Statement.{statement}
 use Rattle.edition.proofs.four.Tie as tie
-use Rattle.edition.proofs.four.Reads as reads
-use Rattle.edition.proofs.four.Lts as lts
 
 cast-byte : tie.Need-cast-byte
 cast-byte c = search needs

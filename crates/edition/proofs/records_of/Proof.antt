@@ -1,14 +1,11 @@
 -- `sheets::records_of` meets its contract. Assumes nothing.
-use mathlib.Core.Path.{sym, _∙_}
+use mathlib.Core.Path.{sym}
 use native.Mathlib.Omega.{arith}
 use Rattle.sheets.specs.Layout.{firstEdition}
 use Rattle.sheets.specs.LayoutLaws.{blocks-least, records-full, records-rest}
 use borrow.Author.Needs.{needs}
 use Rattle.edition.proofs.records_of.Statement.{statement}
 use Rattle.edition.proofs.records_of.Tie as tie
-use Rattle.edition.proofs.records_of.Reads as reads
-use Rattle.edition.proofs.records_of.Lts as lts
-use Rattle.edition.proofs.blocks_of.Reads as blocks-of-reads
 
 blocks-of-requires : tie.Need-blocks-of-requires
 blocks-of-requires c κs = search needs

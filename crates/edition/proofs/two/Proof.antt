@@ -5,8 +5,6 @@ use Rattle.sheets.specs.ByteLaws.{word-two}
 use borrow.Author.Needs.{needs}
 use Rattle.edition.proofs.two.Statement.{statement}
 use Rattle.edition.proofs.two.Tie as tie
-use Rattle.edition.proofs.two.Reads as reads
-use Rattle.edition.proofs.two.Lts as lts
 
 shared-slice-read-low : tie.Need-shared-slice-read-low
 shared-slice-read-low c = search needs

@@ -1,19 +1,9 @@
 -- `filling::put_head` meets its contract: five runs of stores, each where the one before ended. Assumes nothing.
-use mathlib.Core.Path.{_≡_, refl, sym, ap, _∙_}
-use Prim.Native.Nat.{suc, _+_}
-use native.Mathlib.Omega.{arith}
 use Rattle.sheets.specs.Bytes.{bytes}
-use Rattle.sheets.specs.Layout.{firstEdition}
 use Rattle.sheets.specs.Filling.{headOf}
 use borrow.Author.Needs.{needs}
 use Rattle.filling.proofs.put_head.Statement.{statement}
 use Rattle.filling.proofs.put_head.Tie as tie
-use Rattle.filling.proofs.put_head.Reads as reads
-use Rattle.filling.proofs.put_head.Lts as lts
-use Rattle.records.proofs.put2.Reads as put2-reads
-use Rattle.records.proofs.put4.Reads as put4-reads
-use Rattle.edition.proofs.blocks_of.Reads as blocks-of-reads
-use Rattle.edition.proofs.records_of.Reads as records-of-reads
 
 blocks-of-requires : tie.Need-blocks-of-requires
 blocks-of-requires c κs = search needs

@@ -1,16 +1,9 @@
 -- `filling::put_sums` meets its contract: both sums are of the bytes as they stood. Assumes nothing.
-use mathlib.Core.Path.{_≡_, refl, sym, ap, _∙_}
-use native.Mathlib.Omega.{arith}
 use Rattle.sheets.specs.Bytes.{bytes}
 use Rattle.sheets.specs.Filling.{sumsOf}
 use borrow.Author.Needs.{needs}
 use Rattle.filling.proofs.put_sums.Statement.{statement}
 use Rattle.filling.proofs.put_sums.Tie as tie
-use Rattle.filling.proofs.put_sums.Reads as reads
-use Rattle.filling.proofs.put_sums.Lts as lts
-use Rattle.records.proofs.put4.Reads as put4-reads
-use Rattle.sums.proofs.byte_sum.Reads as byte-sum-reads
-use Rattle.sums.proofs.place_sum.Reads as place-sum-reads
 
 byte-sum-requires : tie.Need-byte-sum-requires
 byte-sum-requires c κs = search needs

@@ -1,5 +1,5 @@
 -- `filling::put_zeros` meets its contract: zeros are stored up to i. Assumes nothing.
-use mathlib.Core.Path.{_≡_, refl, sym, ap, _∙_}
+use mathlib.Core.Path.{_≡_, ap, _∙_}
 use Prim.Native.Nat.{ℕ, _+_, _-_, _≤_}
 use native.Mathlib.Omega.{arith}
 use lib.ListN.{length, replicate}
@@ -9,8 +9,6 @@ use Rattle.sheets.specs.FillingLaws.{zeros-store}
 use borrow.Author.Needs.{needs}
 use Rattle.filling.proofs.put_zeros.Statement.{statement}
 use Rattle.filling.proofs.put_zeros.Tie as tie
-use Rattle.filling.proofs.put_zeros.Reads as reads
-use Rattle.filling.proofs.put_zeros.Lts as lts
 
 abbrev Inv-loop : tie.InvT-loop
 Inv-loop block₀ from i₀ block i = («from» ≤ i) × (i ≤ sumPlace) × (block ≡ sets block₀ «from» (replicate (i - «from») 0))

@@ -3,9 +3,6 @@ use Rattle.lines.specs.Laws.{answer-put}
 use borrow.Author.Needs.{needs}
 use Rattle.first_lines.proofs.put_answer.Statement.{statement}
 use Rattle.first_lines.proofs.put_answer.Tie as tie
-use Rattle.first_lines.proofs.put_answer.Reads as reads
-use Rattle.first_lines.proofs.put_answer.Lts as lts
-use Rattle.text.proofs.put_word.Reads as put-word-reads
 
 put-word-requires : tie.Need-put-word-requires
 put-word-requires c κs = search needs

@@ -3,10 +3,6 @@ use Rattle.lines.specs.Laws.{check-put}
 use borrow.Author.Needs.{needs}
 use Rattle.first_lines.proofs.put_check.Statement.{statement}
 use Rattle.first_lines.proofs.put_check.Tie as tie
-use Rattle.first_lines.proofs.put_check.Reads as reads
-use Rattle.first_lines.proofs.put_check.Lts as lts
-use Rattle.text.proofs.put_wide.Reads as put-wide-reads
-use Rattle.text.proofs.put_word.Reads as put-word-reads
 
 put-word-requires : tie.Need-put-word-requires
 put-word-requires c κs = search needs

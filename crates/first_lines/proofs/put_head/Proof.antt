@@ -3,9 +3,6 @@ use Rattle.lines.specs.Laws.{head-put}
 use borrow.Author.Needs.{needs}
 use Rattle.first_lines.proofs.put_head.Statement.{statement}
 use Rattle.first_lines.proofs.put_head.Tie as tie
-use Rattle.first_lines.proofs.put_head.Reads as reads
-use Rattle.first_lines.proofs.put_head.Lts as lts
-use Rattle.text.proofs.put_word.Reads as put-word-reads
 
 put-word-requires : tie.Need-put-word-requires
 put-word-requires c κs = search needs

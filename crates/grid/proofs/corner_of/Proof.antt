@@ -1,14 +1,10 @@
 -- `grid::corner_of` meets its contract: place in the slot, and the flip of the slot times the height. Assumes nothing.
-use mathlib.Core.Path.{_≡_, refl}
 use native.Mathlib.Omega.{arith}
 use Rattle.chain.specs.Corners.{cornerX}
 use Rattle.grid.specs.Laws.{shortest-is, w-positive, slotted, slot-below, row-is, row-small}
 use borrow.Author.Needs.{needs}
 use Rattle.grid.proofs.corner_of.Statement.{statement}
 use Rattle.grid.proofs.corner_of.Tie as tie
-use Rattle.grid.proofs.corner_of.Reads as reads
-use Rattle.grid.proofs.corner_of.Lts as lts
-use Rattle.flipping.proofs.Chain.flip.Reads as flip-reads
 
 mul-t : tie.Need-mul-t
 mul-t c = search needs

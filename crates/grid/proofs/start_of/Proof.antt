@@ -1,13 +1,9 @@
 -- `grid::start_of` meets its contract: x, and the slot of the sub-bin times w. Assumes nothing.
-use mathlib.Core.Path.{_≡_, refl, sym, _∙_}
 use native.Mathlib.Omega.{arith}
 use Rattle.grid.specs.Laws.{period-positive, w-positive, tall-positive, slotted, bin-below, start-is, start-small}
 use borrow.Author.Needs.{needs}
 use Rattle.grid.proofs.start_of.Statement.{statement}
 use Rattle.grid.proofs.start_of.Tie as tie
-use Rattle.grid.proofs.start_of.Reads as reads
-use Rattle.grid.proofs.start_of.Lts as lts
-use Rattle.flipping.proofs.Chain.unflip.Reads as unflip-reads
 
 mul-t : tie.Need-mul-t
 mul-t c = search needs

@@ -1,7 +1,6 @@
 -- `judging::used_unused` meets its contract: the used records end where the run of zeros begins. Assumes nothing.
-use mathlib.Core.Path.{_≡_, refl, sym, ap, _∙_}
+use mathlib.Core.Path.{ap, _∙_}
 use mathlib.Core.Bool.{Bool, not}
-use Prim.Native.Nat.{_+_, _*_}
 use native.Mathlib.Omega.{arith}
 use Rattle.sheets.specs.Layout.{firstEdition}
 use Rattle.sheets.specs.Block.{unused, usedUnused}
@@ -9,10 +8,6 @@ use Rattle.sheets.specs.LayoutLaws.{records-most}
 use borrow.Author.Needs.{needs}
 use Rattle.judging.proofs.used_unused.Statement.{statement}
 use Rattle.judging.proofs.used_unused.Tie as tie
-use Rattle.judging.proofs.used_unused.Reads as reads
-use Rattle.judging.proofs.used_unused.Lts as lts
-use Rattle.sums.proofs.all_zero.Reads as all-zero-reads
-use Rattle.edition.proofs.records_of.Reads as records-of-reads
 
 records-of-requires : tie.Need-records-of-requires
 records-of-requires c κs = search needs

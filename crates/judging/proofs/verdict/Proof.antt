@@ -1,16 +1,11 @@
 -- `judging::verdict` meets its contract: the tests in the order 21, 22, 23. Assumes nothing.
-use mathlib.Core.Path.{_≡_, refl, sym, ap, _∙_}
+use mathlib.Core.Path.{sym, _∙_}
 use native.Mathlib.Omega.{arith}
 use Rattle.sheets.specs.Layout.{firstEdition}
-use Rattle.sheets.specs.BlockLaws.{RightField, field-tested, verdict-21, verdict-22, verdict-23, verdict-0}
+use Rattle.sheets.specs.BlockLaws.{field-tested, verdict-21, verdict-22, verdict-23, verdict-0}
 use borrow.Author.Needs.{needs}
 use Rattle.judging.proofs.verdict.Statement.{statement}
 use Rattle.judging.proofs.verdict.Tie as tie
-use Rattle.judging.proofs.verdict.Reads as reads
-use Rattle.judging.proofs.verdict.Lts as lts
-use Rattle.judging.proofs.used_unused.Reads as used-unused-reads
-use Rattle.judging.proofs.wrong_field.Reads as wrong-field-reads
-use Rattle.judging.proofs.wrong_sum.Reads as wrong-sum-reads
 
 wrong-sum-requires : tie.Need-wrong-sum-requires
 wrong-sum-requires c κs = search needs

@@ -1,18 +1,12 @@
 -- `judging::wrong_field` meets its contract: the first test that fails says it. Assumes nothing.
-use mathlib.Core.Path.{_≡_, refl, sym, ap, _∙_}
+use mathlib.Core.Path.{sym, _∙_}
 use mathlib.Core.Logic.{inl, inr}
 use native.Mathlib.Omega.{arith}
 use Rattle.sheets.specs.Layout.{firstEdition}
-use Rattle.sheets.specs.BlockLaws.{RightField, field-is-wrong, field-is-right}
+use Rattle.sheets.specs.BlockLaws.{field-is-wrong, field-is-right}
 use borrow.Author.Needs.{needs}
 use Rattle.judging.proofs.wrong_field.Statement.{statement}
 use Rattle.judging.proofs.wrong_field.Tie as tie
-use Rattle.judging.proofs.wrong_field.Reads as reads
-use Rattle.judging.proofs.wrong_field.Lts as lts
-use Rattle.edition.proofs.blocks_of.Reads as blocks-of-reads
-use Rattle.edition.proofs.four.Reads as four-reads
-use Rattle.edition.proofs.records_of.Reads as records-of-reads
-use Rattle.edition.proofs.two.Reads as two-reads
 
 returns : tie.Need-returns
 returns c =

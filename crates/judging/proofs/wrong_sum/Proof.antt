@@ -1,18 +1,12 @@
 -- `judging::wrong_sum` meets its contract: each sum is held against the four bytes where it stands. Assumes nothing.
-use mathlib.Core.Path.{_≡_, refl, sym, ap, _∙_}
-use mathlib.Core.Logic.{inl, inr}
-use native.Mathlib.Omega.{arith}
+use mathlib.Core.Path.{sym, _∙_}
+use mathlib.Core.Logic.{inl}
 use Rattle.lists.specs.Telling.{tells-true}
 use Rattle.sheets.specs.Block.{wrongSum}
 use Rattle.sheets.specs.BlockLaws.{wrong-sum-tells, second-sum}
 use borrow.Author.Needs.{needs}
 use Rattle.judging.proofs.wrong_sum.Statement.{statement}
 use Rattle.judging.proofs.wrong_sum.Tie as tie
-use Rattle.judging.proofs.wrong_sum.Reads as reads
-use Rattle.judging.proofs.wrong_sum.Lts as lts
-use Rattle.sums.proofs.byte_sum.Reads as byte-sum-reads
-use Rattle.edition.proofs.four.Reads as four-reads
-use Rattle.sums.proofs.place_sum.Reads as place-sum-reads
 
 byte-sum-requires : tie.Need-byte-sum-requires
 byte-sum-requires c κs = search needs

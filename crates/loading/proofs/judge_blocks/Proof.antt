@@ -1,22 +1,17 @@
 -- `loading::judge_blocks` meets its contract: the blocks below b are right, so the answer for the rest is the answer. Assumes nothing.
-use mathlib.Core.Path.{_≡_, refl, sym, ap, _∙_}
-use Prim.Native.Nat.{ℕ, _+_, _-_, _*_, _/_, _≤_, _<_}
+use mathlib.Core.Path.{sym, ap, _∙_}
+use Prim.Native.Nat.{ℕ, _-_, _/_}
 use native.Mathlib.Omega.{arith}
 use lib.ListN.{length}
 use Rattle.sheets.specs.Layout.{firstEdition}
 use Rattle.sheets.specs.ByteLaws.{word-two}
 use Rattle.words.specs.Answers.{refused}
 use Rattle.sheets.specs.Blocks.{blocksIn, nOf}
-use Rattle.sheets.specs.BlocksLaws.{RightSize, size-tested, Searched, searched-start, searched-next, searched-found, searched-none}
+use Rattle.sheets.specs.BlocksLaws.{size-tested, Searched, searched-start, searched-next, searched-found, searched-none}
 use Rattle.sheets.specs.Loading.{part-long, part-verdict}
 use borrow.Author.Needs.{needs}
 use Rattle.loading.proofs.judge_blocks.Statement.{statement}
 use Rattle.loading.proofs.judge_blocks.Tie as tie
-use Rattle.loading.proofs.judge_blocks.Reads as reads
-use Rattle.loading.proofs.judge_blocks.Lts as lts
-use Rattle.judging.proofs.verdict.Reads as verdict-reads
-use Rattle.edition.proofs.two.Reads as two-reads
-use Rattle.words.proofs.Answer.refused.Reads as refused-reads
 
 abbrev Inv-loop : tie.InvT-loop
 Inv-loop book n blocks b₀ b = Searched firstEdition book b

@@ -1,7 +1,7 @@
 -- `loading::load` meets its contract: the entries below i are those of the records. Assumes nothing.
-use mathlib.Core.Path.{_≡_, refl, sym, ap, _∙_}
+use mathlib.Core.Path.{_≡_, refl, ap, _∙_}
 use mathlib.Core.List.{_++_}
-use Prim.Native.Nat.{ℕ, _+_, _-_, _*_, _/_, _%_, _≤_, _<_}
+use Prim.Native.Nat.{ℕ, _+_, _-_, _≤_}
 use native.Mathlib.Omega.{arith}
 use lib.ListN.{length, drop}
 use Rattle.sheets.specs.Layout.{firstEdition}
@@ -10,9 +10,6 @@ use Rattle.sheets.specs.Loading.{field-room, load-long, load-next}
 use borrow.Author.Needs.{needs}
 use Rattle.loading.proofs.load.Statement.{statement}
 use Rattle.loading.proofs.load.Tie as tie
-use Rattle.loading.proofs.load.Reads as reads
-use Rattle.loading.proofs.load.Lts as lts
-use Rattle.edition.proofs.four.Reads as four-reads
 
 abbrev Inv-loop : tie.InvT-loop
 Inv-loop book f n into₀ i₀ into i = (i ≤ n) × (into ≡ column firstEdition book f 0 i ++ drop i into₀)

@@ -7,9 +7,6 @@ use Rattle.moments.specs.Laws.{candidate-now, candidate-here, candidate-
 use borrow.Author.Needs.{needs}
 use Rattle.moments.proofs.first_from.Statement.{statement}
 use Rattle.moments.proofs.first_from.Tie as tie
-use Rattle.moments.proofs.first_from.Reads as reads
-use Rattle.moments.proofs.first_from.Lts as lts
-use Rattle.moments.proofs.phase.Reads as phase-reads
 
 returns : tie.Need-returns
 returns c =

@@ -1,25 +1,18 @@
 -- `packing::plan` meets its promise: the judge, and then first fit over the lent rows. Assumes nothing.
-use mathlib.Core.Path.{_≡_, refl, sym, ap, _∙_}
+use mathlib.Core.Path.{_≡_, sym, ap, _∙_}
 use Prim.Native.Nat.{ℕ}
 use native.Mathlib.Omega.{arith}
-use lib.ListN.{length, getD, drop, replicate, length-replicate, getD-replicate}
+use lib.ListN.{length, replicate, length-replicate, getD-replicate}
 use lib.Seq.{length-take-le}
 use Rattle.table.specs.declared.Table.{Table}
 use Rattle.probes.specs.Table.{rows}
 use Rattle.probes.specs.Laws.{sound-gives}
 use Rattle.grid.specs.Laws.{prepared-of}
-use Rattle.rectangles.specs.Ends.{PlanReady, plan-ready, plan-refused-end, plan-end}
+use Rattle.rectangles.specs.Ends.{plan-ready, plan-refused-end, plan-end}
 use borrow.Author.Needs.{needs}
 use Rattle.packing.proofs.plan.Statement.{statement}
 use Rattle.packing.proofs.plan.Tie as tie
 use Rattle.packing.proofs.plan.Reads as reads
-use Rattle.packing.proofs.plan.Lts as lts
-use Rattle.flipping.proofs.Chain.of.Reads as Chain-of-reads
-use Rattle.packing.proofs.plan_judged.Reads as plan-judged-reads
-use Rattle.ranks.proofs.order_of.Reads as order-of-reads
-use Rattle.rows.proofs.clear.Reads as clear-reads
-use Rattle.seating.proofs.place_all.Reads as place-all-reads
-use Rattle.table.proofs.Table.of.Reads as Table-of-reads
 
 plan-judged-requires : tie.Need-plan-judged-requires
 plan-judged-requires c κs = search needs

@@ -1,18 +1,11 @@
 -- `admitting::plan_judged` meets its contract: each way out is a way of specs/Ways. Assumes nothing.
-use mathlib.Core.Path.{_≡_, refl, sym, ap, _∙_}
+use mathlib.Core.Path.{ap, _∙_}
 use native.Mathlib.Omega.{arith}
-use lib.ListN.{length}
 use Rattle.table.specs.declared.Table.{Table}
 use Rattle.admitting.specs.Ways.{plan-refused, plan-short-s, plan-short-f, plan-pass}
 use borrow.Author.Needs.{needs}
 use Rattle.packing.proofs.plan_judged.Statement.{statement}
 use Rattle.packing.proofs.plan_judged.Tie as tie
-use Rattle.packing.proofs.plan_judged.Reads as reads
-use Rattle.packing.proofs.plan_judged.Lts as lts
-use Rattle.table.proofs.Table.of.Reads as of-reads
-use Rattle.table.proofs.judge.Reads as judge-reads
-use Rattle.words.proofs.Answer.done.Reads as done-reads
-use Rattle.words.proofs.Answer.refused.Reads as refused-reads
 
 judge-requires : tie.Need-judge-requires
 judge-requires c κs = search needs

@@ -1,4 +1,4 @@
-use mathlib.Core.Path.{_≡_, sym}
+use mathlib.Core.Path.{sym}
 use native.Mathlib.Omega.{arith}
 use lib.Seq.{length-take-le}
 use Rattle.questions.specs.Asking.{opened-few}
@@ -6,12 +6,6 @@ use Rattle.paper.specs.Laws.{page-refused, page-planned, prints-short, prints-d
 use borrow.Author.Needs.{needs}
 use Rattle.pages.proofs.plan_page.Statement.{statement}
 use Rattle.pages.proofs.plan_page.Tie as tie
-use Rattle.pages.proofs.plan_page.Reads as reads
-use Rattle.pages.proofs.plan_page.Lts as lts
-use Rattle.book.proofs.read.Reads as read-reads
-use Rattle.first_lines.proofs.put_answer.Reads as put-answer-reads
-use Rattle.drafting.proofs.put_plan.Reads as put-plan-reads
-use Rattle.words.proofs.Answer.refused.Reads as refused-reads
 
 refused-requires : tie.Need-refused-requires
 refused-requires c κs = search needs

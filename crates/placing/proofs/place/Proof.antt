@@ -1,18 +1,10 @@
 -- `placing::place` meets its contract: the lowest sub-bin with room, its start, and its rows raised; or nothing. Assumes nothing.
-use mathlib.Core.Path.{_≡_, refl, sym, ap, _∙_}
 use native.Mathlib.Omega.{arith}
-use lib.ListN.{length, getD, length-set}
 use Rattle.grid.specs.Laws.{period-positive, tall-is, shortest-is}
-use Rattle.probes.specs.Table.{height}
 use Rattle.placing.specs.Laws.{read-small, tall-small, tall-positive, tall-divides, row-bin, row-fits, row-grid, row-tried, row-stuck}
 use borrow.Author.Needs.{needs}
 use Rattle.placing.proofs.place.Statement.{statement}
 use Rattle.placing.proofs.place.Tie as tie
-use Rattle.placing.proofs.place.Reads as reads
-use Rattle.placing.proofs.place.Lts as lts
-use Rattle.grid.proofs.start_of.Reads as start-of-reads
-use Rattle.rows.proofs.lowest_row.Reads as lowest-row-reads
-use Rattle.rows.proofs.raise_rows.Reads as raise-rows-reads
 
 mul-t : tie.Need-mul-t
 mul-t c = search needs

@@ -1,16 +1,13 @@
 -- `grid::off_grid` meets its contract: the corners of the places below i were tried and are on the grid. Assumes nothing.
-use mathlib.Core.Path.{_≡_, refl}
-use Prim.Native.Nat.{ℕ, _≤_, _<_, _-_}
+use Prim.Native.Nat.{_-_}
 use native.Mathlib.Omega.{arith}
-use lib.ListN.{length, getD}
+use lib.ListN.{length}
 use Rattle.lists.specs.Lowest.{Searching, searching-start, searching-next, searching-found, searching-none}
 use Rattle.chain.specs.Grid.{offGrid}
 use Rattle.grid.specs.Laws.{period-positive, tall-positive, off-x, off-y, off-row, on-all}
 use borrow.Author.Needs.{needs}
 use Rattle.plotting.proofs.off_grid.Statement.{statement}
 use Rattle.plotting.proofs.off_grid.Tie as tie
-use Rattle.plotting.proofs.off_grid.Reads as reads
-use Rattle.plotting.proofs.off_grid.Lts as lts
 
 abbrev Inv-loop : tie.InvT-loop
 Inv-loop periods xs ys w m rows i₀ i = Searching (offGrid periods xs ys) (length periods) i

@@ -1,17 +1,14 @@
 -- `grid::write_corners` meets its contract: the first i entries of both columns are the corners of the first i starts, and no other entry changed. Assumes nothing.
-use mathlib.Core.Path.{_≡_, refl, ap, sym, _∙_}
-use Prim.Native.Nat.{ℕ, _≤_, _<_, _-_}
+use mathlib.Core.Path.{_≡_, ap}
+use Prim.Native.Nat.{_≤_, _-_}
 use native.Mathlib.Omega.{arith}
-use lib.ListN.{length, getD}
-use Rattle.lists.specs.Counted.{filled, Filling, filling-start, filling-length, filling-next}
+use lib.ListN.{length}
+use Rattle.lists.specs.Counted.{Filling, filling-start, filling-length, filling-next}
 use Rattle.grid.specs.declared.Corner.{Corner}
 use Rattle.chain.specs.Grid.{xAt, yAt}
 use borrow.Author.Needs.{needs}
 use Rattle.plotting.proofs.write_corners.Statement.{statement}
 use Rattle.plotting.proofs.write_corners.Tie as tie
-use Rattle.plotting.proofs.write_corners.Reads as reads
-use Rattle.plotting.proofs.write_corners.Lts as lts
-use Rattle.grid.proofs.corner_of.Reads as corner-of-reads
 
 abbrev Inv-loop : tie.InvT-loop
 Inv-loop periods table chain starts xs₀ ys₀ i₀ xs ys i = (i ≤ length periods) × Filling (xAt periods starts) xs₀ xs i × Filling (yAt periods starts) ys₀ ys i

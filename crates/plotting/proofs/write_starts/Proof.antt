@@ -1,16 +1,13 @@
 -- `grid::write_starts` meets its contract: the first i entries are the starts of the first i corners, and no other entry changed. Assumes nothing.
-use mathlib.Core.Path.{_≡_, refl, ap, sym, _∙_}
-use Prim.Native.Nat.{ℕ, _≤_, _<_, _-_}
+use mathlib.Core.Path.{_≡_}
+use Prim.Native.Nat.{_≤_, _-_}
 use native.Mathlib.Omega.{arith}
-use lib.ListN.{length, getD}
-use Rattle.lists.specs.Counted.{filled, Filling, filling-start, filling-length, filling-next}
+use lib.ListN.{length}
+use Rattle.lists.specs.Counted.{Filling, filling-start, filling-length, filling-next}
 use Rattle.chain.specs.Grid.{startAt}
 use borrow.Author.Needs.{needs}
 use Rattle.plotting.proofs.write_starts.Statement.{statement}
 use Rattle.plotting.proofs.write_starts.Tie as tie
-use Rattle.plotting.proofs.write_starts.Reads as reads
-use Rattle.plotting.proofs.write_starts.Lts as lts
-use Rattle.grid.proofs.start_of.Reads as start-of-reads
 
 abbrev Inv-loop : tie.InvT-loop
 Inv-loop periods table chain xs ys starts₀ i₀ starts i = (i ≤ length periods) × Filling (startAt periods xs ys) starts₀ starts i

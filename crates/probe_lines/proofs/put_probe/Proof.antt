@@ -3,10 +3,6 @@ use Rattle.lines.specs.Laws.{probe-put}
 use borrow.Author.Needs.{needs}
 use Rattle.probe_lines.proofs.put_probe.Statement.{statement}
 use Rattle.probe_lines.proofs.put_probe.Tie as tie
-use Rattle.probe_lines.proofs.put_probe.Reads as reads
-use Rattle.probe_lines.proofs.put_probe.Lts as lts
-use Rattle.probe_lines.proofs.put_start.Reads as put-start-reads
-use Rattle.text.proofs.put_word.Reads as put-word-reads
 
 put-word-requires : tie.Need-put-word-requires
 put-word-requires c κs = search needs

@@ -1,6 +1,5 @@
-use mathlib.Core.Path.{_≡_, refl}
-use mathlib.Core.List.{List}
-use Prim.Native.Nat.{ℕ, _+_, _-_, _*_, _≤_, _<_}
+use mathlib.Core.Path.{_≡_}
+use Prim.Native.Nat.{_+_, _-_, _*_, _≤_}
 use native.Mathlib.Omega.{arith}
 use lib.ListN.{length}
 use Rattle.text.specs.Putting.{Put, put-length}
@@ -9,9 +8,6 @@ use Rattle.lines.specs.Laws.{mostLine, probes-none, probes-put}
 use borrow.Author.Needs.{needs}
 use Rattle.probe_lines.proofs.put_probes.Statement.{statement}
 use Rattle.probe_lines.proofs.put_probes.Tie as tie
-use Rattle.probe_lines.proofs.put_probes.Reads as reads
-use Rattle.probe_lines.proofs.put_probes.Lts as lts
-use Rattle.probe_lines.proofs.put_probe.Reads as put-probe-reads
 
 abbrev Inv-loop : tie.InvT-loop
 Inv-loop out₀ from periods lengths starts at₀ i₀ out at i =

@@ -4,9 +4,6 @@ use Rattle.lines.specs.Laws.{start-put, mark-put}
 use borrow.Author.Needs.{needs}
 use Rattle.probe_lines.proofs.put_start.Statement.{statement}
 use Rattle.probe_lines.proofs.put_start.Tie as tie
-use Rattle.probe_lines.proofs.put_start.Reads as reads
-use Rattle.probe_lines.proofs.put_start.Lts as lts
-use Rattle.text.proofs.put_word.Reads as put-word-reads
 
 slice-write-out : tie.Need-slice-write-out
 slice-write-out c = search needs

@@ -1,5 +1,5 @@
 -- `records::put2` meets its contract: two stores, least byte first. Assumes nothing.
-use mathlib.Core.Path.{_≡_, refl}
+use mathlib.Core.Path.{_≡_}
 use Prim.Native.Nat.{suc, _+_}
 use native.Mathlib.Omega.{arith}
 use lib.ListN.{length-set}
@@ -7,8 +7,6 @@ use Rattle.sheets.specs.Bytes.{bytes}
 use borrow.Author.Needs.{needs}
 use Rattle.records.proofs.put2.Statement.{statement}
 use Rattle.records.proofs.put2.Tie as tie
-use Rattle.records.proofs.put2.Reads as reads
-use Rattle.records.proofs.put2.Lts as lts
 
 cast-block : tie.Need-cast-block
 cast-block c = search needs

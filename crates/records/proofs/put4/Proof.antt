@@ -1,5 +1,5 @@
 -- `records::put4` meets its contract: four stores, least byte first. Assumes nothing.
-use mathlib.Core.Path.{_≡_, refl}
+use mathlib.Core.Path.{_≡_}
 use Prim.Native.Nat.{suc, _+_}
 use native.Mathlib.Omega.{arith}
 use lib.ListN.{length-set}
@@ -7,8 +7,6 @@ use Rattle.sheets.specs.Bytes.{bytes}
 use borrow.Author.Needs.{needs}
 use Rattle.records.proofs.put4.Statement.{statement}
 use Rattle.records.proofs.put4.Tie as tie
-use Rattle.records.proofs.put4.Reads as reads
-use Rattle.records.proofs.put4.Lts as lts
 
 cast-byte : tie.Need-cast-byte
 cast-byte c = search needs

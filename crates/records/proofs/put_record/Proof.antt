@@ -1,16 +1,8 @@
 -- `records::put_record` meets its contract: three runs of stores, each where the one before ended. Assumes nothing.
-use mathlib.Core.Path.{_≡_, refl, sym, ap, _∙_}
-use Prim.Native.Nat.{suc, _+_}
-use native.Mathlib.Omega.{arith}
-use Rattle.sheets.specs.Bytes.{bytes}
-use Rattle.sheets.specs.Records.{recordOf}
 use Rattle.sheets.specs.RecordLaws.{record-stored}
 use borrow.Author.Needs.{needs}
 use Rattle.records.proofs.put_record.Statement.{statement}
 use Rattle.records.proofs.put_record.Tie as tie
-use Rattle.records.proofs.put_record.Reads as reads
-use Rattle.records.proofs.put_record.Lts as lts
-use Rattle.records.proofs.put4.Reads as put4-reads
 
 put4-requires : tie.Need-put4-requires
 put4-requires c κs = search needs

@@ -1,19 +1,16 @@
 -- `records::put_records` meets its contract: j records are stored, one after another. Assumes nothing.
-use mathlib.Core.Path.{_≡_, refl, sym, ap, _∙_}
+use mathlib.Core.Path.{_≡_, refl, ap, _∙_}
 use Prim.Native.Nat.{ℕ, _+_, _-_, _*_, _≤_}
 use native.Mathlib.Omega.{arith}
 use lib.ListN.{length}
 use lib.Seq.{sets, length-sets}
 use Rattle.sheets.specs.Layout.{headBytes}
 use Rattle.sheets.specs.Runs.{runFrom, run-store}
-use Rattle.sheets.specs.Records.{recordOf, recordAt}
+use Rattle.sheets.specs.Records.{recordAt}
 use Rattle.sheets.specs.RecordLaws.{length-record}
 use borrow.Author.Needs.{needs}
 use Rattle.records.proofs.put_records.Statement.{statement}
 use Rattle.records.proofs.put_records.Tie as tie
-use Rattle.records.proofs.put_records.Reads as reads
-use Rattle.records.proofs.put_records.Lts as lts
-use Rattle.records.proofs.put_record.Reads as put-record-reads
 
 abbrev Inv-loop : tie.InvT-loop
 Inv-loop block₀ periods lengths starts first k j₀ block j = (j ≤ k) × (block ≡ sets block₀ headBytes (runFrom (recordAt periods lengths starts) first j))

@@ -1,13 +1,7 @@
-use mathlib.Core.Path.{_≡_}
 use borrow.Author.Needs.{needs}
 use Rattle.questions.specs.Replies.{Replies}
 use Rattle.replies.proofs.ask.Statement.{statement}
 use Rattle.replies.proofs.ask.Tie as tie
-use Rattle.replies.proofs.ask.Reads as reads
-use Rattle.replies.proofs.ask.Lts as lts
-use Rattle.checker.proofs.check.Reads as check-reads
-use Rattle.timetable.proofs.holder.Reads as holder-reads
-use Rattle.upcoming.proofs.next_start.Reads as next-start-reads
 
 enum-told : tie.Need-enum-told
 enum-told c = search needs

@@ -1,14 +1,10 @@
-use mathlib.Core.Path.{_≡_, sym}
+use mathlib.Core.Path.{sym}
 use native.Mathlib.Omega.{arith}
 use lib.Seq.{length-take-le}
 use borrow.Author.Needs.{needs}
 use Rattle.questions.specs.Asking.{opened-few, answers-refused, answers-opened}
 use Rattle.replies.proofs.reply.Statement.{statement}
 use Rattle.replies.proofs.reply.Tie as tie
-use Rattle.replies.proofs.reply.Reads as reads
-use Rattle.replies.proofs.reply.Lts as lts
-use Rattle.book.proofs.read.Reads as read-reads
-use Rattle.replies.proofs.ask.Reads as ask-reads
 
 slice-aggregate-read : tie.Need-slice-aggregate-read
 slice-aggregate-read c = search needs

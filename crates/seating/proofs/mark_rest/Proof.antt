@@ -1,15 +1,13 @@
 -- `seating::mark_rest` meets its contract: what is left to mark decides the rest. Assumes nothing.
 use mathlib.Core.Path.{_≡_, refl, sym}
-use Prim.Native.Nat.{ℕ, _≤_, _<_, _-_}
+use Prim.Native.Nat.{_≤_, _-_}
 use native.Mathlib.Omega.{arith}
-use lib.ListN.{length, getD, take, length-take}
+use lib.ListN.{length, take}
 use lib.Seq.{getD-take, length-take-le}
 use Rattle.seating.specs.Laws.{Marking, marking-next, marking-done}
 use borrow.Author.Needs.{needs}
 use Rattle.seating.proofs.mark_rest.Statement.{statement}
 use Rattle.seating.proofs.mark_rest.Tie as tie
-use Rattle.seating.proofs.mark_rest.Reads as reads
-use Rattle.seating.proofs.mark_rest.Lts as lts
 
 abbrev Inv-loop : tie.InvT-loop
 Inv-loop k n starts₀ turns l₀ starts l = (l ≤ n) × Marking (take n turns) k starts₀ starts l

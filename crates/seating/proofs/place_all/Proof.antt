@@ -1,24 +1,14 @@
 -- `seating::place_all` meets its contract: what first fit says of the rest of the order is what it says of all. Assumes nothing.
-use mathlib.Core.Path.{_≡_, refl, sym, ap, _∙_}
-use mathlib.Core.Bool.{true, false}
-use Prim.Native.Nat.{ℕ, _≤_, _<_, _-_}
+use mathlib.Core.Path.{sym, ap, _∙_}
+use Prim.Native.Nat.{_<_, _-_}
 use native.Mathlib.Omega.{arith}
-use lib.ListN.{length, getD, take, drop}
+use lib.ListN.{length, getD}
 use borrow.Author.Tests.{not-true, not-false}
-use Rattle.order.specs.Order.{order}
 use Rattle.order.specs.Listed.{order-probe}
-use Rattle.stack.specs.FirstFit.{outcome, marked}
-use Rattle.placing.specs.Placing.{Ready, Tried}
 use Rattle.seating.specs.Laws.{Seating, seating-start, seating-next, stuck-end, done-end, marked-long, rows-long, order-entry}
 use borrow.Author.Needs.{needs}
 use Rattle.seating.proofs.place_all.Statement.{statement}
 use Rattle.seating.proofs.place_all.Tie as tie
-use Rattle.seating.proofs.place_all.Reads as reads
-use Rattle.seating.proofs.place_all.Lts as lts
-use Rattle.seating.proofs.mark_rest.Reads as mark-rest-reads
-use Rattle.placing.proofs.place.Reads as place-reads
-use Rattle.words.proofs.Answer.done.Reads as done-reads
-use Rattle.words.proofs.Answer.refused.Reads as refused-reads
 
 abbrev Inv-loop : tie.InvT-loop
 Inv-loop periods lengths table chain starts₀ fills₀ turns n k₀ starts fills k = Seating periods lengths starts₀ fills₀ starts fills k

@@ -1,7 +1,6 @@
 -- `admitting::starts_judged` meets its contract: each way out is a way of specs/Ways. Assumes nothing.
-use mathlib.Core.Path.{_≡_, refl, sym, ap, _∙_}
+use mathlib.Core.Path.{_∙_}
 use native.Mathlib.Omega.{arith}
-use lib.ListN.{length}
 use Rattle.probes.specs.Laws.{sound-gives}
 use Rattle.probes.specs.Composing.{zero-sound}
 use Rattle.grid.specs.Laws.{prepared-of}
@@ -9,15 +8,6 @@ use Rattle.admitting.specs.Ways.{starts-differ-x, starts-differ-y, starts-refus
 use borrow.Author.Needs.{needs}
 use Rattle.starting.proofs.starts_judged.Statement.{statement}
 use Rattle.starting.proofs.starts_judged.Tie as tie
-use Rattle.starting.proofs.starts_judged.Reads as reads
-use Rattle.starting.proofs.starts_judged.Lts as lts
-use Rattle.flipping.proofs.Chain.of.Reads as Chain-of-reads
-use Rattle.plotting.proofs.off_grid.Reads as off-grid-reads
-use Rattle.table.proofs.Table.of.Reads as Table-of-reads
-use Rattle.table.proofs.at_place.Reads as at-place-reads
-use Rattle.table.proofs.judge.Reads as judge-reads
-use Rattle.words.proofs.Answer.done.Reads as done-reads
-use Rattle.words.proofs.Answer.refused.Reads as refused-reads
 
 refused-requires : tie.Need-refused-requires
 refused-requires c κs = search needs

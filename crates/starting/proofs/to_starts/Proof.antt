@@ -1,19 +1,11 @@
 -- `packing::to_starts` meets its promise: the judge, and then the starts of all corners. Assumes nothing.
-use mathlib.Core.Path.{_≡_, refl, sym, ap, _∙_}
 use native.Mathlib.Omega.{arith}
-use lib.ListN.{length}
 use Rattle.probes.specs.Laws.{sound-gives}
 use Rattle.grid.specs.Laws.{prepared-of}
-use Rattle.rectangles.specs.Ends.{StartsReady, starts-ready, starts-refused-end, starts-end}
+use Rattle.rectangles.specs.Ends.{starts-ready, starts-refused-end, starts-end}
 use borrow.Author.Needs.{needs}
 use Rattle.starting.proofs.to_starts.Statement.{statement}
 use Rattle.starting.proofs.to_starts.Tie as tie
-use Rattle.starting.proofs.to_starts.Reads as reads
-use Rattle.starting.proofs.to_starts.Lts as lts
-use Rattle.flipping.proofs.Chain.of.Reads as Chain-of-reads
-use Rattle.plotting.proofs.write_starts.Reads as write-starts-reads
-use Rattle.starting.proofs.starts_judged.Reads as starts-judged-reads
-use Rattle.table.proofs.Table.of.Reads as Table-of-reads
 
 starts-judged-requires : tie.Need-starts-judged-requires
 starts-judged-requires c κs = search needs

@@ -1,6 +1,6 @@
 -- `sheets::all_zero` meets its contract: the bytes passed are zero, so the answer for the rest is the answer. Assumes nothing.
 use mathlib.Core.Path.{_≡_, refl, sym, ap, _∙_}
-use Prim.Native.Nat.{ℕ, _+_, _-_, _≤_}
+use Prim.Native.Nat.{ℕ, _-_, _≤_}
 use native.Mathlib.Omega.{arith}
 use lib.ListN.{take, drop}
 use Rattle.sheets.specs.Bytes.{allZero}
@@ -9,8 +9,6 @@ use Rattle.sheets.specs.ByteLaws.{zero-next, zero-found, zero-none}
 use borrow.Author.Needs.{needs}
 use Rattle.sums.proofs.all_zero.Statement.{statement}
 use Rattle.sums.proofs.all_zero.Tie as tie
-use Rattle.sums.proofs.all_zero.Reads as reads
-use Rattle.sums.proofs.all_zero.Lts as lts
 
 abbrev Inv-loop : tie.InvT-loop
 Inv-loop block from at₀ at = (at ≤ sumPlace) × (allZero (drop at (take sumPlace block)) ≡ allZero (drop «from» (take sumPlace block)))

@@ -1,6 +1,6 @@
 -- `sheets::byte_sum` meets its contract: the sum so far is that of the bytes below i. Assumes nothing.
-use mathlib.Core.Path.{_≡_, refl, sym, ap, _∙_}
-use Prim.Native.Nat.{ℕ, _+_, _-_, _*_, _≤_}
+use mathlib.Core.Path.{_≡_, refl, ap, _∙_}
+use Prim.Native.Nat.{ℕ, _-_, _*_, _≤_}
 use native.Mathlib.Omega.{arith}
 use lib.ListN.{take}
 use Rattle.sheets.specs.Bytes.{byteSum}
@@ -9,8 +9,6 @@ use Rattle.sheets.specs.ByteLaws.{sum-next}
 use borrow.Author.Needs.{needs}
 use Rattle.sums.proofs.byte_sum.Statement.{statement}
 use Rattle.sums.proofs.byte_sum.Tie as tie
-use Rattle.sums.proofs.byte_sum.Reads as reads
-use Rattle.sums.proofs.byte_sum.Lts as lts
 
 abbrev Inv-loop : tie.InvT-loop
 Inv-loop block sum₀ i₀ sum i = (i ≤ sumPlace) × (sum ≡ byteSum (take i block)) × (sum ≤ 255 * i)

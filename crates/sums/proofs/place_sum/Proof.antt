@@ -1,5 +1,5 @@
 -- `sheets::place_sum` meets its contract: the sum so far is that of the places passed. Assumes nothing.
-use mathlib.Core.Path.{_≡_, refl, sym, ap, _∙_}
+use mathlib.Core.Path.{_≡_, refl, ap, _∙_}
 use Prim.Native.Nat.{ℕ, _+_, _-_, _*_, _≤_}
 use native.Mathlib.Omega.{arith}
 use lib.ListN.{take, getD}
@@ -9,8 +9,6 @@ use Rattle.sheets.specs.ByteLaws.{place-next, place-part}
 use borrow.Author.Needs.{needs}
 use Rattle.sums.proofs.place_sum.Statement.{statement}
 use Rattle.sums.proofs.place_sum.Tie as tie
-use Rattle.sums.proofs.place_sum.Reads as reads
-use Rattle.sums.proofs.place_sum.Lts as lts
 
 abbrev Inv-loop : tie.InvT-loop
 Inv-loop block sum₀ place₀ sum place = (place ≤ sumPlace) × (sum ≡ placeSum 0 (take place block)) × (sum ≤ 128520 * place)

@@ -1,25 +1,16 @@
 -- `table::judge` meets its contract: each way out is a way of specs/Ways. Assumes nothing.
-use mathlib.Core.Path.{_≡_, refl, sym, ap, _∙_}
-use Prim.Native.Nat.{ℕ, _≤_, _<_}
+use mathlib.Core.Path.{ap, _∙_}
+use Prim.Native.Nat.{_≤_}
 use native.Mathlib.Omega.{arith}
 use lib.ListN.{length}
 use Rattle.lists.specs.Lowest.{lowest}
 use Rattle.table.specs.declared.Table.{Table}
-use Rattle.probes.specs.Table.{shortest, rows, mostRows}
-use Rattle.probes.specs.Verdict.{badPeriod, badLength, unchained}
+use Rattle.probes.specs.Table.{shortest, rows}
+use Rattle.probes.specs.Verdict.{badPeriod, unchained}
 use Rattle.table.specs.Ways.{in-range, bad-length-is, way-differ, way-many, way-period, way-length, way-chain, way-rows, way-done}
 use borrow.Author.Needs.{needs}
 use Rattle.table.proofs.judge.Statement.{statement}
 use Rattle.table.proofs.judge.Tie as tie
-use Rattle.table.proofs.judge.Reads as reads
-use Rattle.table.proofs.judge.Lts as lts
-use Rattle.table.proofs.Table.of.Reads as of-reads
-use Rattle.table.proofs.at_place.Reads as at-place-reads
-use Rattle.columns.proofs.bad_length.Reads as bad-length-reads
-use Rattle.columns.proofs.bad_period.Reads as bad-period-reads
-use Rattle.chained.proofs.unchained.Reads as unchained-reads
-use Rattle.words.proofs.Answer.done.Reads as done-reads
-use Rattle.words.proofs.Answer.refused.Reads as refused-reads
 
 refused-requires : tie.Need-refused-requires
 refused-requires c κs = search needs

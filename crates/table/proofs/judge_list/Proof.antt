@@ -1,18 +1,11 @@
 -- `table::judge_list` meets its contract: the ways out of specs/Composing. Assumes nothing.
-use mathlib.Core.Path.{_≡_, _∙_}
+use mathlib.Core.Path.{_∙_}
 use native.Mathlib.Omega.{arith}
-use Rattle.probes.specs.Laws.{Soundness, sound-gives}
+use Rattle.probes.specs.Laws.{sound-gives}
 use Rattle.probes.specs.Composing.{list-differ, list-refused, list-late, list-done, zero-sound}
 use borrow.Author.Needs.{needs}
 use Rattle.table.proofs.judge_list.Statement.{statement}
 use Rattle.table.proofs.judge_list.Tie as tie
-use Rattle.table.proofs.judge_list.Reads as reads
-use Rattle.table.proofs.judge_list.Lts as lts
-use Rattle.table.proofs.at_place.Reads as at-place-reads
-use Rattle.table.proofs.judge.Reads as judge-reads
-use Rattle.columns.proofs.late.Reads as late-reads
-use Rattle.words.proofs.Answer.done.Reads as done-reads
-use Rattle.words.proofs.Answer.refused.Reads as refused-reads
 
 refused-requires : tie.Need-refused-requires
 refused-requires c κs = search needs

@@ -3,9 +3,6 @@ use Rattle.probes.specs.Laws.{verdict-meets}
 use borrow.Author.Needs.{needs}
 use Rattle.table.proofs.validate.Statement.{statement}
 use Rattle.table.proofs.validate.Tie as tie
-use Rattle.table.proofs.validate.Reads as reads
-use Rattle.table.proofs.validate.Lts as lts
-use Rattle.table.proofs.judge.Reads as judge-reads
 
 judge-requires : tie.Need-judge-requires
 judge-requires c κs = search needs

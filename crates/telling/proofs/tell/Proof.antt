@@ -1,11 +1,8 @@
-use mathlib.Core.Path.{_≡_, refl}
+use mathlib.Core.Path.{refl}
 use borrow.Author.Needs.{needs}
 use Rattle.telling.specs.Laws.{told}
 use Rattle.telling.proofs.tell.Statement.{statement}
 use Rattle.telling.proofs.tell.Tie as tie
-use Rattle.telling.proofs.tell.Reads as reads
-use Rattle.telling.proofs.tell.Lts as lts
-use Rattle.records.proofs.put4.Reads as put4-reads
 
 cast-low : tie.Need-cast-low
 cast-low c = search needs

@@ -1,11 +1,11 @@
 use Prim.Native.Nat.{ℕ, suc, _+_, _/_, _%_, _≤_, _<_}
-use mathlib.Core.Path.{_≡_, sym, ap, _∙_}
-use mathlib.Core.List.{List, [], _∷_, _++_}
+use mathlib.Core.Path.{_≡_, ap, _∙_}
+use mathlib.Core.List.{List, [], _∷_}
 use native.Mathlib.Omega.{arith}
 use lib.ListN.{length, length-append}
 use borrow.Author.Needs.{needs}
 use Rattle.text.specs.Text.{decimal}
-use Rattle.text.specs.Putting.{Put, put-length, put-on, put-one}
+use Rattle.text.specs.Putting.{put-length, put-on, put-one}
 use Rattle.text.specs.TextLaws.{tens, decimal-one, decimal-more}
 use borrow.Fn.Kinds.{In}
 use borrow.Fn.PlainCycle.{Measures, is, falls, and}

@@ -4,9 +4,6 @@ use Rattle.text.specs.Putting.{put-length, put-on, put-one}
 use Rattle.text.specs.TextLaws.{decimal-wide}
 use Rattle.text.proofs.put_wide.Statement.{statement}
 use Rattle.text.proofs.put_wide.Tie as tie
-use Rattle.text.proofs.put_wide.Reads as reads
-use Rattle.text.proofs.put_wide.Lts as lts
-use Rattle.text.proofs.put_number.Reads as put-number-reads
 
 put-number-requires : tie.Need-put-number-requires
 put-number-requires c κs = omega (arith, decimal-wide (c .before .before .args .x) (omega arith))

@@ -4,8 +4,6 @@ use lib.ListN.{length-set}
 use borrow.Author.Needs.{needs}
 use Rattle.trial.proofs.tell.Statement.{statement}
 use Rattle.trial.proofs.tell.Tie as tie
-use Rattle.trial.proofs.tell.Reads as reads
-use Rattle.trial.proofs.tell.Lts as lts
 
 returns : tie.Need-returns
 returns c = search needs

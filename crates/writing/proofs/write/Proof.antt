@@ -1,23 +1,15 @@
 -- `book::write` meets its contract: the ways out of specs/WriteLaws, and the blocks stored. Assumes nothing.
-use mathlib.Core.Path.{_≡_, refl, sym, ap, _∙_}
-use Prim.Native.Nat.{ℕ, _+_, _*_, _/_, _≤_}
+use mathlib.Core.Path.{ap, _∙_}
 use native.Mathlib.Omega.{arith}
 use lib.ListN.{length}
 use Rattle.words.specs.declared.Answer.{Answer}
-use Rattle.sheets.specs.Layout.{firstEdition, blocksOf}
+use Rattle.sheets.specs.Layout.{firstEdition}
 use Rattle.sheets.specs.LayoutLaws.{blocks-few}
-use Rattle.sheets.specs.Runs.{runFrom}
-use Rattle.sheets.specs.Filling.{blockOf}
 use Rattle.volumes.specs.Writing.{pages}
 use Rattle.volumes.specs.WriteLaws.{writes-as, write-starts, write-lengths, write-many, write-short, done-writes}
 use borrow.Author.Needs.{needs}
 use Rattle.writing.proofs.write.Statement.{statement}
 use Rattle.writing.proofs.write.Tie as tie
-use Rattle.writing.proofs.write.Reads as reads
-use Rattle.writing.proofs.write.Lts as lts
-use Rattle.blocks.proofs.put_blocks.Reads as put-blocks-reads
-use Rattle.edition.proofs.blocks_of.Reads as blocks-of-reads
-use Rattle.words.proofs.Answer.refused.Reads as refused-reads
 
 refused-requires : tie.Need-refused-requires
 refused-requires c κs = search needs

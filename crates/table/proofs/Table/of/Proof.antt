@@ -1,12 +1,7 @@
-use mathlib.Core.Path.{_≡_}
 use Rattle.table.specs.Ways.{three-none, three-some}
 use borrow.Author.Needs.{needs}
 use Rattle.table.proofs.Table.of.Statement.{statement}
 use Rattle.table.proofs.Table.of.Tie as tie
-use Rattle.table.proofs.Table.of.Reads as reads
-use Rattle.table.proofs.Table.of.Lts as lts
-use Rattle.columns.proofs.greatest.Reads as greatest-reads
-use Rattle.columns.proofs.least.Reads as least-reads
 
 least-requires : tie.Need-least-requires
 least-requires c κs = search needs
