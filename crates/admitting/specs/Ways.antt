@@ -8,7 +8,7 @@ use lib.Dec.{ltb, eqb}
 use lib.ListN.{length}
 use borrow.Author.Tests.{lt-ltb, le-ltb}
 use Rattle.lists.specs.Lowest.{lowest}
-use Rattle.lists.specs.Answering.{Found, found, firstOf}
+use Rattle.lists.specs.Answering.{found, firstOf}
 use Rattle.words.specs.declared.Answer.{Answer}
 use Rattle.words.specs.Answers.{refused, done}
 use Rattle.probes.specs.Table.{rows}
@@ -19,9 +19,6 @@ use Rattle.admitting.specs.Admitting.{cornerLast, cornerFindings, startL
 use Rattle.admitting.specs.Checks.{judged-refused, judged-passed, short-way, long-way, place-way, none-way, either-left, either-right, either-none, same-left, other-left, differ-way, planLast}
 
 module _ (Ts ps ss xs ys : List ℕ) where
-  abbrev all : List Found
-  all = cornerFindings Ts ps ss xs ys
-
   pub corners-differ : (length Ts ≡ length ss → ⊥) → refused 1 0 ≡ firstOf (cornerFindings Ts ps ss xs ys) refused done
   unfolding cornerFindings
   corners-differ n = sym (differ-way Ts ps _ (cornerLast Ts ps ss xs ys) (other-left (length Ts) (length ss) (not (eqb (length Ts) (length ps))) n))
@@ -37,9 +34,6 @@ module _ (Ts ps ss xs ys : List ℕ) where
     module _ (z : a .number ≡ 0) where
       on : firstOf (cornerFindings Ts ps ss xs ys) refused done ≡ firstOf (cornerLast Ts ps ss xs ys) refused done
       on = rw plain (judged-passed Ts ps (cornerLast Ts ps ss xs ys) a e z)
-
-      late-part : List Found
-      late-part = found 9 (length Ts) (lowest (late Ts ss) (length Ts)) ∷ []
 
       pub corners-short-x : length xs < length Ts → refused 7 0 ≡ firstOf (cornerFindings Ts ps ss xs ys) refused done
       corners-short-x h = sym (on ∙ short-way _ refused done 7 _ (either-left _ _ (lt-ltb (length xs) (length Ts) h)))

@@ -26,9 +26,6 @@ pub record Decomposing (bs : List ℕ) (v : ℕ) (d : List ℕ) (rest i : ℕ) :
   pub whole : take i d ++ digits (drop i bs) rest ≡ digits bs v
 
 module _ (bs : List ℕ) (v : ℕ) (d : List ℕ) where
-  pub decomposing-start : length d ≡ length bs → Decomposing bs v d v 0
-  decomposing-start e = record { within = omega arith; long = e; whole = refl }
-
   module _ (rest i : ℕ) (g : Decomposing bs v d rest i) where
     pub decomposing-next : i < length bs → Decomposing bs v (set d i (rest % getD bs i 0)) (rest / getD bs i 0) (i + 1)
     unfolding digits

@@ -5,11 +5,10 @@
 -- Assumes nothing.
 use mathlib.Core.Path.{_≡_, refl, ap, _∙_}
 use mathlib.Core.List.{List, [], _∷_, _++_, reverse, reverse-cons}
-use Prim.Native.Nat.{ℕ, suc, _+_, _*_, _/_, _%_, _<_}
+use Prim.Native.Nat.{ℕ, _+_, _*_, _/_, _%_, _<_}
 use native.Mathlib.Nat.{mod-lt, mul-comm, div-add-mod', div-lt-iff-lt-mul}
 use native.Mathlib.Omega.{arith}
 use lib.Arith.{digits-lt, digits-div, digits-mod, mod-mul}
-use lib.ListN.{length}
 use Rattle.chain.specs.Digits.{product, digits, AllPositive, Digits}
 use Rattle.chain.specs.Products.{product-positive}
 
@@ -17,11 +16,6 @@ unfoldable pub valueOf : List ℕ → List ℕ → ℕ
 valueOf [] ds = 0
 valueOf (b ∷ bs) [] = 0
 valueOf (b ∷ bs) (d ∷ ds) = d + b * valueOf bs ds
-
-pub digits-length : (bs : List ℕ) (v : ℕ) → length (digits bs v) ≡ length bs
-unfolding digits
-digits-length [] v = refl
-digits-length (b ∷ bs) v = ap suc (digits-length bs (v / b))
 
 pub digits-are : (bs : List ℕ) (v : ℕ) → AllPositive bs → Digits bs (digits bs v)
 unfolding digits AllPositive Digits

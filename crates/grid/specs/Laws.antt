@@ -1,5 +1,4 @@
 -- LAWS OF THE CONVERSIONS, for the code that computes them.
---     on-grid-of            a corner that the test lets through is on the grid
 --     Prepared gives ..     w and the heights are at least 1, slots and rows are in range
 -- Assumes nothing.
 use mathlib.Core.Path.{_≡_, ap}
@@ -22,7 +21,7 @@ use Rattle.chain.specs.Ratios.{ratios}
 use Rattle.chain.specs.RatioLaws.{ratios-level, ratios-positive}
 use Rattle.chain.specs.Slotted.{Slotted, chain-slotted, chain-flip, chain-unflip}
 use Rattle.chain.specs.Corners.{cornerY, startOf}
-use Rattle.chain.specs.CornerLaws.{OnGrid, grid-complete, start-below}
+use Rattle.chain.specs.CornerLaws.{OnGrid, start-below}
 use Rattle.grid.specs.Prepared.{tableOf, chainOf, Prepared}
 use Rattle.chain.specs.Grid.{OffGridAt, offGrid, off-grid-tells}
 
@@ -32,9 +31,6 @@ module _ (Ts : List ℕ) (t : Table) (c : Chain) (p : Prepared Ts t c) where
 
   pub longest-is : t .longest ≡ longest Ts
   longest-is = ap (λ (x : Table). x .longest) (p .table-is)
-
-  pub rows-is : t .rows ≡ rows Ts
-  rows-is = ap (λ (x : Table). x .rows) (p .table-is)
 
   module _ (i : ℕ) (h : i < length Ts) where
     pub w-positive : 0 < t .shortest
@@ -111,10 +107,6 @@ module _ (Ts : List ℕ) (t : Table) (c : Chain) (p : Prepared Ts t c) (xs ys : 
       none (inl l) = omega (arith, shortest-is Ts t c p)
       none (inr (inl n)) = n (dvd-of-mod-eq-zero (height Ts (getD Ts i 0)) (rw (tall-is Ts t c p i h) at b))
       none (inr (inr l)) = omega (arith, chain-rows-is)
-
--- a corner that number 18 lets through
-pub on-grid-of : (Ts xs ys : List ℕ) (i : ℕ) → offGrid Ts xs ys i ≡ false → OnGrid Ts (getD Ts i 0) (getD xs i 0) (getD ys i 0)
-on-grid-of Ts xs ys i e = grid-complete Ts (getD Ts i 0) (getD xs i 0) (getD ys i 0) (off-grid-tells Ts xs ys i .no e)
 
 -- a sound table with its w, M, H and chain
 pub prepared-of : (Ts ps : List ℕ) (t : Table) (c : Chain) → Sound Ts ps → t ≡ tableOf Ts → c ≡ chainOf Ts → Prepared Ts t c

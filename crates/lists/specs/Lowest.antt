@@ -3,7 +3,7 @@
 --     lowest f n        the same, found by trying the test f at 0, 1, ..
 --     Searching f n i   what a loop knows that has tried the places below i
 -- Assumes nothing.
-use mathlib.Core.Path.{_≡_, refl, sym, ap, _∙_}
+use mathlib.Core.Path.{_≡_, refl, ap}
 use mathlib.Core.Bool.{Bool, true, false}
 use Prim.Native.Nat.{ℕ, zero, suc, _+_, _-_, _≤_, _<_}
 use native.Mathlib.Nat.{sub-zero}
@@ -82,9 +82,3 @@ from-meets f P n i (suc k) e d before = go (f i) refl (λ b. from-meets f P n (s
 pub lowest-meets : (f : ℕ → Bool) (P : ℕ → Type 0) (n : ℕ) → Decides f P n → Lowest P n (lowest f n)
 unfolding lowest
 lowest-meets f P n d = from-meets f P n 0 n (omega arith) d (λ j h. absurd (omega arith))
-
-pub lowest-within : (f : ℕ → Bool) (n : ℕ) → lowest f n ≤ n
-lowest-within f n = lowest-meets f (λ i. f i ≡ true) n (λ i h. record { yes = λ e. e; no = clashing (f i) }) .within
-  where
-    clashing : (b : Bool) → b ≡ false → b ≡ true → ⊥
-    clashing b e₁ e₂ = let z : _≡_ {A = Bool} false true = sym e₁ ∙ e₂ in let o : _≡_ {A = ℕ} 0 1 = ap (λ (c : Bool). pick c 1 0) z in omega arith

@@ -4,7 +4,7 @@
 -- Assumes nothing.
 use mathlib.Core.Path.{_≡_, refl}
 use mathlib.Core.List.{List, [], _∷_, _++_}
-use Prim.Native.Nat.{ℕ, zero, suc, _+_, _≤_, _<_}
+use Prim.Native.Nat.{ℕ, zero, suc, _+_, _<_}
 use native.Mathlib.Omega.{arith}
 
 unfoldable pub sumOf : (ℕ → ℕ) → List ℕ → ℕ
@@ -24,11 +24,6 @@ pub sumBelow-same : (f g : ℕ → ℕ) (n : ℕ) → ((k : ℕ) → k < n → f
 unfolding sumBelow
 sumBelow-same f g zero e = refl
 sumBelow-same f g (suc n) e = omega (arith, e n (omega arith), sumBelow-same f g n (λ k h. e k (omega arith)))
-
-pub sumBelow-at-most : (f g : ℕ → ℕ) (n : ℕ) → ((k : ℕ) → k < n → f k ≤ g k) → sumBelow f n ≤ sumBelow g n
-unfolding sumBelow
-sumBelow-at-most f g zero e = omega arith
-sumBelow-at-most f g (suc n) e = omega (arith, e n (omega arith), sumBelow-at-most f g n (λ k h. e k (omega arith)))
 
 -- a sum by its first term
 pub sumBelow-first : (f : ℕ → ℕ) (n : ℕ) → sumBelow f (suc n) ≡ f 0 + sumBelow (λ k. f (suc k)) n

@@ -51,9 +51,6 @@ module _ (Ts ps : List ℕ) (t : Table) (c : Chain) (ss fs : List ℕ) (i : ℕ)
   unfolding bins
   bins-are = ap (λ (x : ℕ). x / tall * tall) rows-are ∙ ap (λ (x : ℕ). x * tall) (mul-div-cancel-left (getD Ts i 0 / shortest Ts) tall-positive) ∙ mul-comm (getD Ts i 0 / shortest Ts) tall ∙ sym rows-are
 
-  bin : ℕ
-  bin = binOf Ts ps i fs
-
   found : Lowest (Fits fs tall (getD ps i 0) (shortest Ts)) (bins fs tall) (binOf Ts ps i fs)
   unfolding binOf
   found = lowest-bin fs tall (getD ps i 0) (shortest Ts)

@@ -2,6 +2,7 @@
 ghost use mathlib.Core.List.{[], _∷_, _++_};
 ghost use Prim.Native.Nat.{_+_, _*_, _≤_};
 ghost use lib.ListN.{length};
+ghost use Rattle.probes.specs.Table.{mostProbes};
 ghost use Rattle.text.specs.Putting.{Put};
 ghost use Rattle.lines.specs.Lines.{startText, probeLine, probeLines};
 ghost use Rattle.lines.specs.Laws.{mostLine};
@@ -41,7 +42,7 @@ pub fn put_probes(
     lengths: &[u32],
     starts: &[u32],
 ) -> usize
-    requires { ⌜ length (now periods) ≤ 256 ⌝ }
+    requires { ⌜ length (now periods) ≤ mostProbes ⌝ }
     requires { ⌜ length (now periods) ≤ length (now lengths) ⌝ }
     requires { ⌜ length (now periods) ≤ length (now starts) ⌝ }
     requires { ⌜ from + mostLine * length (now periods) ≤ length (now out) ⌝ }

@@ -55,11 +55,6 @@ bytes-value (b ∷ bs) h =
     let d : (b + 256 * value bs) / 256 ≡ value bs = omega arith in
     rw (m, d) (ap (λ (xs : List ℕ). b ∷ xs) (bytes-value bs (λ i. h (suc i))))
 
-pub length-bytes : (k x : ℕ) → length (bytes k x) ≡ k
-unfolding bytes
-length-bytes zero x = refl
-length-bytes (suc k) x = ap suc (length-bytes k (x / 256))
-
 -- the sums
 pub byte-sum-append : (xs ys : List ℕ) → byteSum (xs ++ ys) ≡ byteSum xs + byteSum ys
 unfolding byteSum

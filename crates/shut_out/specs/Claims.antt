@@ -6,7 +6,7 @@
 --     differs               two results of which different numbers are seen are not the same
 --     all-settled           a promise that what is computed meets, and that leaves one result: a table is settled by computing it
 -- Assumes nothing.
-use mathlib.Core.Path.{_≡_, refl, ap, _∙_}
+use mathlib.Core.Path.{_≡_, refl, sym, ap, _∙_}
 use mathlib.Core.Bool.{Bool, true, false, not}
 use mathlib.Core.List.{List, [], _∷_}
 use Prim.Native.Nat.{ℕ, suc}
@@ -89,6 +89,18 @@ same-list-tells (x ∷ xs) (y ∷ ys) =
     let t : xs ≡ ys = e .1 in
     rw (h, t))
     (λ e. (ap (λ (l : List ℕ). getD l 0 0) e, ap behind e))
+
+-- a result of two parts is the same where both parts are
+module _ {A B O : Type 0} (first : O → A) (second : O → B) (make : A → B → O) (made : (o : O) → make (first o) (second o) ≡ o) where
+  pub two-tell : (f : A → A → Bool) → ((x y : A) → Tells (f x y) (x ≡ y)) → (g : B → B → Bool) → ((x y : B) → Tells (g x y) (x ≡ y)) → (a b : O)
+                 → Tells (both (f (first a) (first b)) (g (second a) (second b))) (a ≡ b)
+  two-tell f f-tells g g-tells a b =
+      tells-as _ (tells-both _ _ (f-tells (first a) (first b)) (g-tells (second a) (second b)))
+      (λ e. sym (made a) ∙ parts (e .0) (e .1) ∙ made b)
+      (λ e. (ap first e, ap second e))
+    where
+      parts : first a ≡ first b → second a ≡ second b → make (first a) (second a) ≡ make (first b) (second b)
+      parts x y = rw (x, y)
 
 pub differs : {O : Type 0} (see : O → ℕ) (o wrong : O) (m : ℕ) → see o ≡ m → eqb (see wrong) m ≡ false → wrong ≡ o → ⊥
 differs see o wrong m e n same = true-or-false (eqb (see wrong) m) (eq-eqb _ _ (ap see same ∙ e)) n

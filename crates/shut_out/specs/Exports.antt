@@ -2,7 +2,7 @@
 --     telling q bs out right wrong   a question, a book and the lent bytes, the result that the promise has for them, and what a wrong program leaves behind
 --     export-shuts-out               every claim of the table is settled: the right result meets the promise, and the wrong one does not
 -- Assumes nothing.
-use mathlib.Core.Path.{_≡_, refl, ap}
+use mathlib.Core.Path.{_≡_, refl}
 use mathlib.Core.Bool.{Bool}
 use mathlib.Core.List.{List, [], _∷_, _++_}
 use Prim.Native.Nat.{ℕ}
@@ -10,7 +10,7 @@ use lib.Dec.{eqb}
 use lib.ListN.{replicate}
 use Rattle.lists.specs.Pick.{both, Tells, anyBelow}
 use Rattle.lists.specs.Lowest.{lowest, lowestFrom}
-use Rattle.lists.specs.Telling.{tells-both, tells-eq, tells-as}
+use Rattle.lists.specs.Telling.{tells-eq}
 use Rattle.lists.specs.Answering.{firstOf}
 use Rattle.wire.specs.Meeting.{lag, apart, sharedTick, apartAt, tickAt}
 use Rattle.probes.specs.Table.{leastOf, greatestOf, shortest, longest, rows, widths}
@@ -30,7 +30,7 @@ use Rattle.telling.specs.Shown.{shown}
 use Rattle.exports.specs.Exports.{Given, given, Exports, exportOf}
 use Rattle.exports.specs.Laws.{export-meets}
 use Rattle.exports.proofs.Promises.{export-unique}
-use Rattle.shut_out.specs.Claims.{Claim, claim, Each, Settled, sameList, same-list-tells, all-settled}
+use Rattle.shut_out.specs.Claims.{two-tell, Claim, claim, Each, Settled, sameList, same-list-tells, all-settled}
 use Rattle.shut_out.specs.Read.{summed, two}
 
 -- a question, a book and the lent bytes
@@ -89,13 +89,7 @@ abbrev same : Given → Given → Bool
 same a b = both (eqb (a .number) (b .number)) (sameList (a .bytes) (b .bytes))
 
 same-tells : (a b : Given) → Tells (same a b) (a ≡ b)
-same-tells a b =
-    tells-as (same a b) (tells-both _ _ (tells-eq (a .number) (b .number)) (same-list-tells (a .bytes) (b .bytes)))
-    (λ e. fields (e .0) (e .1))
-    (λ e. (ap (λ (r : Given). r .number) e, ap (λ (r : Given). r .bytes) e))
-  where
-    fields : a .number ≡ b .number → a .bytes ≡ b .bytes → given (a .number) (a .bytes) ≡ given (b .number) (b .bytes)
-    fields x t = rw (x, t)
+same-tells = two-tell (λ (r : Given). r .number) (λ (r : Given). r .bytes) given (λ o. refl) eqb tells-eq sameList same-list-tells
 
 pub export-shuts-out : Each (Settled Meets) claims
 unfolding bytes value word byteSum placeSum allZero blocksOf recordsOf runFrom wrongSum wrongField unused usedUnused recordOf recordAt headOf bodyOf sumsOf badSize blockAt blocksIn nOf blockFindings field column

@@ -4,14 +4,13 @@
 --     plan-page-shuts-out           the same of `plan_page`, of books that are refused
 -- Not said here: pages of a planned table. The flip is shut here; the bench sheet has 01's printed example whole.
 -- Assumes nothing.
-use mathlib.Core.Path.{_≡_, refl, ap}
+use mathlib.Core.Path.{_≡_, refl}
 use mathlib.Core.Bool.{Bool}
 use mathlib.Core.List.{List, [], _∷_, _++_}
 use Prim.Native.Nat.{ℕ}
 use lib.ListN.{replicate}
 use Rattle.lists.specs.Pick.{both, Tells, anyBelow}
 use Rattle.lists.specs.Lowest.{lowest, lowestFrom}
-use Rattle.lists.specs.Telling.{tells-both, tells-as}
 use Rattle.lists.specs.Answering.{firstOf}
 use Rattle.words.specs.Answers.{refused}
 use Rattle.wire.specs.Meeting.{lag, apart, sharedTick, apartAt, tickAt}
@@ -31,7 +30,7 @@ use Rattle.lines.specs.Laws.{mostCheck}
 use Rattle.paper.specs.Printed.{planPage, checkPage}
 use Rattle.paper.specs.Paper.{mostPlan, Paper, paper, printOf, PlanPrints, CheckPrints}
 use Rattle.paper.proofs.Promises.{print-unique, print-total}
-use Rattle.shut_out.specs.Claims.{Claim, claim, Each, Settled, sameAnswer, same-answer-tells, sameList, same-list-tells, all-settled}
+use Rattle.shut_out.specs.Claims.{two-tell, Claim, claim, Each, Settled, sameAnswer, same-answer-tells, sameList, same-list-tells, all-settled}
 use Rattle.shut_out.specs.Read.{summed, two}
 
 -- a book and the lent bytes
@@ -94,13 +93,7 @@ abbrev same : Paper → Paper → Bool
 same a b = both (sameAnswer (a .answer) (b .answer)) (sameList (a .bytes) (b .bytes))
 
 same-tells : (a b : Paper) → Tells (same a b) (a ≡ b)
-same-tells a b =
-    tells-as (same a b) (tells-both _ _ (same-answer-tells (a .answer) (b .answer)) (same-list-tells (a .bytes) (b .bytes)))
-    (λ e. fields (e .0) (e .1))
-    (λ e. (ap (λ (r : Paper). r .answer) e, ap (λ (r : Paper). r .bytes) e))
-  where
-    fields : a .answer ≡ b .answer → a .bytes ≡ b .bytes → paper (a .answer) (a .bytes) ≡ paper (b .answer) (b .bytes)
-    fields x t = rw (x, t)
+same-tells = two-tell (λ (r : Paper). r .answer) (λ (r : Paper). r .bytes) paper (λ o. refl) sameAnswer same-answer-tells sameList same-list-tells
 
 pub check-page-shuts-out : Each (Settled CheckMeets) checkClaims
 unfolding bytes value word byteSum placeSum allZero blocksOf recordsOf runFrom wrongSum wrongField unused usedUnused recordOf recordAt headOf bodyOf sumsOf badSize blockAt blocksIn nOf blockFindings field column

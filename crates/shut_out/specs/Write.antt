@@ -2,13 +2,12 @@
 --     writing Ts ps ss out right wrong   columns and the lent bytes, the result that the promise has for them, and what a wrong program leaves behind
 --     write-shuts-out                    every claim of the table is settled: the right result meets the promise, and the wrong one does not
 -- Assumes nothing.
-use mathlib.Core.Path.{_≡_, refl, ap}
+use mathlib.Core.Path.{_≡_, refl}
 use mathlib.Core.Bool.{Bool}
 use mathlib.Core.List.{List, [], _∷_, _++_}
 use Prim.Native.Nat.{ℕ}
 use lib.ListN.{take, set, replicate}
 use Rattle.lists.specs.Pick.{both, Tells}
-use Rattle.lists.specs.Telling.{tells-both, tells-as}
 use Rattle.lists.specs.Answering.{firstOf}
 use Rattle.words.specs.Answers.{refused, done}
 use Rattle.sheets.specs.Bytes.{bytes, byteSum, placeSum}
@@ -18,7 +17,7 @@ use Rattle.sheets.specs.Filling.{recordOf, recordAt, headOf, bodyOf, sumsOf, bl
 use Rattle.volumes.specs.Writing.{bookOf, Pages, pages, writeFindings, doneWrite, Writes, writeOf}
 use Rattle.volumes.specs.WriteLaws.{write-meets}
 use Rattle.volumes.proofs.Promises.{write-unique}
-use Rattle.shut_out.specs.Claims.{Claim, claim, Each, Settled, sameAnswer, same-answer-tells, sameList, same-list-tells, all-settled}
+use Rattle.shut_out.specs.Claims.{two-tell, Claim, claim, Each, Settled, sameAnswer, same-answer-tells, sameList, same-list-tells, all-settled}
 use Rattle.shut_out.specs.Read.{summed, two}
 
 -- periods, lengths, starts and the lent bytes
@@ -76,13 +75,7 @@ abbrev same : Pages → Pages → Bool
 same a b = both (sameAnswer (a .answer) (b .answer)) (sameList (a .out) (b .out))
 
 same-tells : (a b : Pages) → Tells (same a b) (a ≡ b)
-same-tells a b =
-    tells-as (same a b) (tells-both _ _ (same-answer-tells (a .answer) (b .answer)) (same-list-tells (a .out) (b .out)))
-    (λ e. fields (e .0) (e .1))
-    (λ e. (ap (λ (r : Pages). r .answer) e, ap (λ (r : Pages). r .out) e))
-  where
-    fields : a .answer ≡ b .answer → a .out ≡ b .out → pages (a .answer) (a .out) ≡ pages (b .answer) (b .out)
-    fields x t = rw (x, t)
+same-tells = two-tell (λ (r : Pages). r .answer) (λ (r : Pages). r .out) pages (λ o. refl) sameAnswer same-answer-tells sameList same-list-tells
 
 pub write-shuts-out : Each (Settled Meets) claims
 unfolding bytes byteSum placeSum blocksOf recordsOf runFrom recordOf recordAt headOf bodyOf sumsOf blockOf bookOf writeFindings doneWrite writeOf firstOf

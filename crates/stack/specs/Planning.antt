@@ -109,9 +109,6 @@ module _ (Ts ps qs ss : List ℕ) (ha : Harmonic Ts) (pos : Positive qs (length 
 
   -- every row is too full for the probe that is stuck
   module _ (i : ℕ) (s : Stuck Ts qs [] (order Ts ps) (fit-holds .ended) o i) where
-    h : ℕ
-    h = height Ts (getD Ts i 0)
-
     probe : i < length Ts
     probe = Rattle.stack.specs.Fitting.coming-probe Ts [] (order Ts ps) (order-coming Ts ps ha) i (s .one)
 

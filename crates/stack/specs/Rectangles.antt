@@ -86,9 +86,6 @@ module _ (Ts : List ℕ) (ha : Harmonic Ts) (i j : ℕ) (hi : i < length Ts) (hj
   m-least : m ≤ n
   m-least = le-of-dvd n-positive m-divides
 
-  share : ℕ
-  share = n / m
-
   share-times : m * (n / m) ≡ n
   share-times = mul-div-cancel' m m-divides
 

@@ -59,9 +59,6 @@ module _ (bs Ts ps ss : List ℕ) where
 
 -- reading then writing
 module _ (bs : List ℕ) (are : AreBytes bs) (size : badSize firstEdition bs ≡ false) (judged : judgedBlocks firstEdition bs .number ≡ 0) where
-  columnOf : ℕ → List ℕ
-  columnOf f = column firstEdition bs f 0 (nOf bs)
-
   written-back : (out : List ℕ) → length bs ≤ length out
       → Writes firstEdition (column firstEdition bs 0 0 (nOf bs)) (column firstEdition bs 1 0 (nOf bs)) (column firstEdition bs 2 0 (nOf bs)) out (pages (refused 0 (length bs)) (bs ++ drop (length bs) out))
   unfolding doneWrite blocksIn

@@ -4,7 +4,6 @@
 --     lag-back        o added back gives s, around the period
 --     lag-unique      and no other number below the period does: so lag is "the remainder of s - o by T, from 0 up"
 --     lag-after       from o on it is the plain remainder of t - o
---     lag-zero        moved by nothing, a start below its period stays
 --     lag-add         x later it is x more, around the period
 --     seen            a tick, seen from the start s by T: as far into the other's turn as it is, plus their lag
 --     lag-moved       two starts that are moved alike keep their lag
@@ -58,11 +57,6 @@ lag-after T o t h l = ap (λ (y : ℕ). (y + (T - o % T)) % T) back ∙ whole-tu
   where
     back : t ≡ t - o + o
     back = omega arith
-
-pub lag-zero : (T s : ℕ) → s < T → lag T 0 s ≡ s
-lag-zero T s h =
-    let e : s - 0 ≡ s = omega arith in
-    lag-after T 0 s (omega arith) (omega arith) ∙ rw e (mod-eq-of-lt h)
 
 pub lag-add : (T o s x : ℕ) → lag T o (s + x) ≡ (lag T o s + x) % T
 unfolding lag
