@@ -10,7 +10,7 @@ stop() { cat "$room/said"; echo "FAILED: $what ($*)"; exit 1; }
 most=64 # KiB in which each program must run
 
 sh tests/made >"$room/said" 2>&1 || stop "archives and programs are not there"
-gcc -std=gnu99 -Wall -Wextra -Werror -O1 -Iinclude tests/masters/stack.c target/staticlib/libmasters.a target/staticlib/libtrial.a -Wl,-z,now -o "$room/stack" >"$room/said" 2>&1 ||
+gcc -std=gnu99 -Wall -Wextra -Werror -O1 -Iinclude tests/masters/stack.c target/staticlib/libmasters.a target/staticlib/libtrial_book.a -Wl,-z,now -o "$room/stack" >"$room/said" 2>&1 ||
     stop "the measurement cannot be built"
 "$room/stack" >"$room/said" 2>&1 || stop "a call went wrong, or took more than LINE_STACK_BYTES"
 sed 's/$/ bytes/' "$room/said"

@@ -1,5 +1,5 @@
 #!/bin/sh
-# Every public call, through the archive of trial, the exports of masters and the two programs as processes, against the independent
+# Every public call, through the archives of trial and trial_book, the exports of masters and the two programs as processes, against the independent
 # program in reference/, on random and boundary inputs.
 set -u
 cd "$(dirname "$0")/../.." || exit 2

@@ -93,7 +93,7 @@ same-list-tells (x ∷ xs) (y ∷ ys) =
 -- a result of two parts is the same where both parts are
 module _ {A B O : Type 0} (first : O → A) (second : O → B) (make : A → B → O) (made : (o : O) → make (first o) (second o) ≡ o) where
   pub two-tell : (f : A → A → Bool) → ((x y : A) → Tells (f x y) (x ≡ y)) → (g : B → B → Bool) → ((x y : B) → Tells (g x y) (x ≡ y)) → (a b : O)
-                 → Tells (both (f (first a) (first b)) (g (second a) (second b))) (a ≡ b)
+      → Tells (both (f (first a) (first b)) (g (second a) (second b))) (a ≡ b)
   two-tell f f-tells g g-tells a b =
       tells-as _ (tells-both _ _ (f-tells (first a) (first b)) (g-tells (second a) (second b)))
       (λ e. sym (made a) ∙ parts (e .0) (e .1) ∙ made b)

@@ -1,8 +1,8 @@
-// Every public call as an export on slices, for tests and benchmarks alone.
+// Every public call on columns as an export on slices, for tests and benchmarks alone.
 // The answer goes into `out` as five numbers, where it is long enough: number, index, second index, the tick's lower and upper half.
 use words::Answer;
 
-fn tell(given: Answer, out: &mut [u32]) {
+pub fn tell(given: Answer, out: &mut [u32]) {
     if out.len() < 5 {
         return;
     }
@@ -80,36 +80,4 @@ pub extern "C" fn trial_next_start(
     out: &mut [u32],
 ) {
     tell(timetable::next_start(periods, lengths, starts, tick), out);
-}
-
-#[no_mangle]
-pub extern "C" fn trial_read(
-    bytes: &[u8],
-    periods: &mut [u32],
-    lengths: &mut [u32],
-    starts: &mut [u32],
-    out: &mut [u32],
-) {
-    tell(book::read(bytes, periods, lengths, starts), out);
-}
-
-#[no_mangle]
-pub extern "C" fn trial_write(
-    periods: &[u32],
-    lengths: &[u32],
-    starts: &[u32],
-    bytes: &mut [u8],
-    out: &mut [u32],
-) {
-    tell(book::write(periods, lengths, starts, bytes), out);
-}
-
-#[no_mangle]
-pub extern "C" fn trial_plan_page(book: &[u8], page: &mut [u8], out: &mut [u32]) {
-    tell(pages::plan_page(book, page), out);
-}
-
-#[no_mangle]
-pub extern "C" fn trial_check_page(book: &[u8], page: &mut [u8], out: &mut [u32]) {
-    tell(pages::check_page(book, page), out);
 }
