@@ -38,7 +38,7 @@ use Rattle.probes.specs.Table.{lines, listLines, Differ, Sound, longest, rows, 
 use Rattle.probes.specs.Verdict.{Validates, verdict}
 use Rattle.probes.specs.Laws.{verdict-meets, sound-gives, never-mark}
 use Rattle.probes.specs.Widths.{widths-none}
-use Rattle.table.proofs.Promises.{validate-unique, validate-numbers}
+use Rattle.probes.proofs.Promises.{validate-unique, validate-numbers}
 use Rattle.chain.specs.Corners.{OffGrid}
 use Rattle.order.specs.Order.{Before, order}
 use Rattle.order.specs.Listed.{order-sorted, order-once}

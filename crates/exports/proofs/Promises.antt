@@ -1,4 +1,4 @@
--- WHAT THE THREE EXPORTS PROMISE, in words of specs/ alone: specs/Exports has the promise `Exports`, crate replies what a book answers.
+-- WHAT THE THREE EXPORTS PROMISE, in words of specs/ alone: specs/Exports has the promise `Exports`, crate questions what a book answers.
 --     export-unique             two results that meet the promise are one: the number that comes back and all lent bytes
 --     export-total              every book and every lent bytes have one
 --     export-short              with fewer than 20 bytes it is 7, and nothing is written

@@ -1,4 +1,4 @@
--- WHAT `checker::check` PROMISES, in words of specs/ alone: specs/Check has the promise `Checks`, the wire's specs/Wire what clean means.
+-- WHAT `checker::check` PROMISES, in words of specs/ alone: specs/Check has the promise `Checks`, crate wire, specs/Wire, what clean means.
 -- Assumes nothing.
 use mathlib.Core.Path.{_≡_, refl, ap}
 use mathlib.Core.Logic.{inl, inr, _≢_, ⊎-elim}

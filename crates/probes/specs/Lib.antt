@@ -10,3 +10,4 @@ pub mod Passed
 pub mod Extremes
 pub mod Heights
 pub mod Widths
+pub mod Ways

@@ -10,7 +10,7 @@
 --     lateLine Ts ss    line 9: "a start is T or more"
 --     Below Ts ss       every start lies below its period: 9 does not apply
 --     listLines Ts ps ss    the lines 1 to 6 and 9 of a call that takes a list: periods, lengths and starts
--- The conditions of 3, 4, 5 and 9 at a place, w and M stand in columns (specs/Columns) and chained (specs/Chained).
+-- The conditions of 3, 4, 5 and 9 at a place, w and M stand in specs/Columns and specs/Chained.
 -- Edges: the empty table is sound.
 -- Assumes nothing.
 use mathlib.Core.Logic.{_⊎_, _≢_}

@@ -2,7 +2,7 @@
 --     ToCorners Ts ps ss xs ys o    the promise of `to_corners`: the refusal, with nothing written; else n corners, and the entries past n stay
 --     ToStarts Ts ps xs ys ss o     the promise of `to_starts`
 --     cornersOf, startsOf       the same, computed
--- The lines stand in admitting (specs/Admitting).
+-- The lines stand in crate admitting, specs/Admitting.
 -- Assumes nothing.
 use mathlib.Core.Path.{_≡_}
 use mathlib.Core.List.{List}

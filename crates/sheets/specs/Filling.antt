@@ -1,6 +1,6 @@
 -- THE BYTES OF A BLOCK THAT IS WRITTEN. Document 01, "The book": "At 504 the sum of bytes 0 to 503; at 508 the sum of (place + 1) times
 -- byte over the same bytes .. unused records are zero."
---     recordAt Ts ps ss i        the bytes of record i (records, specs/Records)
+--     recordAt Ts ps ss i        the bytes of record i (specs/Records)
 --     headOf L n b               bytes 0 to 11 of block b
 --     bodyOf L Ts ps ss b        bytes 0 to 503 of block b
 --     sumsOf body                the two sums

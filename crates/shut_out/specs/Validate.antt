@@ -16,7 +16,7 @@ use Rattle.words.specs.Answers.{refused, done}
 use Rattle.probes.specs.Table.{leastOf, greatestOf, shortest, longest, rows}
 use Rattle.probes.specs.Verdict.{divides, chained, badPeriod, badLength, unchained, findings, verdict, Validates}
 use Rattle.probes.specs.Laws.{verdict-meets}
-use Rattle.table.proofs.Promises.{validate-unique}
+use Rattle.probes.proofs.Promises.{validate-unique}
 use Rattle.shut_out.specs.Claims.{Claim, claim, Each, Settled, sameAnswer, same-answer-tells, all-settled}
 
 -- periods and lengths

@@ -1,6 +1,6 @@
 -- READING A BOOK. Document 01, "The book": "Reading, in order: 20, size 0, no multiple of 512, or above 3,584; then per block ascending 21 .. 22 .. 23 .. each with the block as index;
 -- then 24, a column shorter than n .. A done reading has n as its index .. Refused calls write nothing .. Bytes and entries past the result stay."
---     readLines L bs ..     the lines of reading, in order; those of 20 to 23, n and the columns of a book stand in loading (specs/Blocks)
+--     readLines L bs ..     the lines of reading, in order; those of 20 to 23, n and the columns of a book stand in crate sheets, specs/Blocks
 --     Columns               an answer, and the three lent columns afterwards
 --     Reads L bs Ts ps ss o     the promise of `read`
 --     readOf L bs Ts ps ss      the same, computed

@@ -7,7 +7,7 @@
 --     CleanAmong C Ts qs ss    the same of the probes that C chooses
 -- The columns are periods, widths and starts; a read's width is the ticks that it takes on the wire, in the base its length.
 -- Edges: a probe holds nothing before its start; s + q may pass T; the empty list is clean.
--- Not said here: that a start lies below its period (table, specs/Table).
+-- Not said here: that a start lies below its period (probes, specs/Table).
 -- Assumes nothing.
 use mathlib.Core.Path.{_≡_}
 use mathlib.Core.List.{List}

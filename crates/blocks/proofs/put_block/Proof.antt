@@ -1,4 +1,4 @@
--- `filling::put_block` meets its contract: head, records, zeros and sums, one after another. Assumes nothing.
+-- `blocks::put_block` meets its contract: head, records, zeros and sums, one after another. Assumes nothing.
 use mathlib.Core.Path.{ap, _∙_}
 use Prim.Native.Nat.{ℕ, _+_, _-_, _*_}
 use native.Mathlib.Omega.{arith}

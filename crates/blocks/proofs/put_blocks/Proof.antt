@@ -1,4 +1,4 @@
--- `filling::put_blocks` meets its contract: b blocks are stored, one after another. Assumes nothing.
+-- `blocks::put_blocks` meets its contract: b blocks are stored, one after another. Assumes nothing.
 use mathlib.Core.Path.{_≡_, refl, ap, _∙_}
 use Prim.Native.Nat.{ℕ, _+_, _-_, _*_, _≤_}
 use native.Mathlib.Nat.{zero-add}

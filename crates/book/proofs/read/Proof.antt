@@ -1,4 +1,4 @@
--- `book::read` meets its contract: the ways out of specs/ReadLaws, and three columns filled. Assumes nothing.
+-- `book::read` meets its contract: the ways out of crate volumes, specs/ReadLaws, and three columns filled. Assumes nothing.
 use mathlib.Core.Path.{sym, ap, _∙_}
 use mathlib.Core.Logic.{inl, inr, ⊎-elim}
 use native.Mathlib.Omega.{arith}

@@ -1,4 +1,4 @@
--- `sheets::blocks_of` meets its contract. Assumes nothing.
+-- `edition::blocks_of` meets its contract. Assumes nothing.
 use mathlib.Core.Path.{sym}
 use Rattle.sheets.specs.Layout.{firstEdition}
 use Rattle.sheets.specs.LayoutLaws.{blocks-none, blocks-more}

@@ -1,4 +1,4 @@
--- `sheets::four` meets its contract: four bytes at a place make the number. Assumes nothing.
+-- `edition::four` meets its contract: four bytes at a place make the number. Assumes nothing.
 use Prim.Native.Nat.{_+_}
 use native.Mathlib.Omega.{arith}
 use Rattle.sheets.specs.ByteLaws.{word-four}

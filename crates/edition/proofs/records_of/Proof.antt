@@ -1,4 +1,4 @@
--- `sheets::records_of` meets its contract. Assumes nothing.
+-- `edition::records_of` meets its contract. Assumes nothing.
 use mathlib.Core.Path.{sym}
 use native.Mathlib.Omega.{arith}
 use Rattle.sheets.specs.Layout.{firstEdition}

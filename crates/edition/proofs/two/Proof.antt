@@ -1,4 +1,4 @@
--- `sheets::two` meets its contract: two bytes at a place make the number. Assumes nothing.
+-- `edition::two` meets its contract: two bytes at a place make the number. Assumes nothing.
 use Prim.Native.Nat.{_+_}
 use native.Mathlib.Omega.{arith}
 use Rattle.sheets.specs.ByteLaws.{word-two}

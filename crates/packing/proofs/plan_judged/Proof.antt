@@ -1,4 +1,4 @@
--- `admitting::plan_judged` meets its contract: each way out is a way of specs/Ways. Assumes nothing.
+-- `packing::plan_judged` meets its contract: each way out is a way of specs/Ways. Assumes nothing.
 use mathlib.Core.Path.{ap, _∙_}
 use native.Mathlib.Omega.{arith}
 use Rattle.table.specs.declared.Table.{Table}

@@ -1,4 +1,4 @@
--- `grid::off_grid` meets its contract: the corners of the places below i were tried and are on the grid. Assumes nothing.
+-- `plotting::off_grid` meets its contract: the corners of the places below i were tried and are on the grid. Assumes nothing.
 use Prim.Native.Nat.{_-_}
 use native.Mathlib.Omega.{arith}
 use lib.ListN.{length}

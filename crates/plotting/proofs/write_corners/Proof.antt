@@ -1,4 +1,4 @@
--- `grid::write_corners` meets its contract: the first i entries of both columns are the corners of the first i starts, and no other entry changed. Assumes nothing.
+-- `plotting::write_corners` meets its contract: the first i entries of both columns are the corners of the first i starts, and no other entry changed. Assumes nothing.
 use mathlib.Core.Path.{_≡_, ap}
 use Prim.Native.Nat.{_≤_, _-_}
 use native.Mathlib.Omega.{arith}

@@ -1,4 +1,4 @@
--- `grid::write_starts` meets its contract: the first i entries are the starts of the first i corners, and no other entry changed. Assumes nothing.
+-- `plotting::write_starts` meets its contract: the first i entries are the starts of the first i corners, and no other entry changed. Assumes nothing.
 use mathlib.Core.Path.{_≡_}
 use Prim.Native.Nat.{_≤_, _-_}
 use native.Mathlib.Omega.{arith}

@@ -1,4 +1,4 @@
--- `sheets::all_zero` meets its contract: the bytes passed are zero, so the answer for the rest is the answer. Assumes nothing.
+-- `sums::all_zero` meets its contract: the bytes passed are zero, so the answer for the rest is the answer. Assumes nothing.
 use mathlib.Core.Path.{_≡_, refl, sym, ap, _∙_}
 use Prim.Native.Nat.{ℕ, _-_, _≤_}
 use native.Mathlib.Omega.{arith}

@@ -1,4 +1,4 @@
--- `sheets::byte_sum` meets its contract: the sum so far is that of the bytes below i. Assumes nothing.
+-- `sums::byte_sum` meets its contract: the sum so far is that of the bytes below i. Assumes nothing.
 use mathlib.Core.Path.{_≡_, refl, ap, _∙_}
 use Prim.Native.Nat.{ℕ, _-_, _*_, _≤_}
 use native.Mathlib.Omega.{arith}

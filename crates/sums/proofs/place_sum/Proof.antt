@@ -1,4 +1,4 @@
--- `sheets::place_sum` meets its contract: the sum so far is that of the places passed. Assumes nothing.
+-- `sums::place_sum` meets its contract: the sum so far is that of the places passed. Assumes nothing.
 use mathlib.Core.Path.{_≡_, refl, ap, _∙_}
 use Prim.Native.Nat.{ℕ, _+_, _-_, _*_, _≤_}
 use native.Mathlib.Omega.{arith}

@@ -7,7 +7,7 @@ use Rattle.lists.specs.Lowest.{lowest}
 use Rattle.table.specs.declared.Table.{Table}
 use Rattle.probes.specs.Table.{shortest, rows}
 use Rattle.probes.specs.Verdict.{badPeriod, unchained}
-use Rattle.table.specs.Ways.{in-range, bad-length-is, way-differ, way-many, way-period, way-length, way-chain, way-rows, way-done}
+use Rattle.probes.specs.Ways.{in-range, bad-length-is, way-differ, way-many, way-period, way-length, way-chain, way-rows, way-done}
 use borrow.Author.Needs.{needs}
 use Rattle.table.proofs.judge.Statement.{statement}
 use Rattle.table.proofs.judge.Tie as tie

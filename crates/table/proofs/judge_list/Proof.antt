@@ -1,4 +1,4 @@
--- `table::judge_list` meets its contract: the ways out of specs/Composing. Assumes nothing.
+-- `table::judge_list` meets its contract: the ways out of crate probes, specs/Composing. Assumes nothing.
 use mathlib.Core.Path.{_∙_}
 use native.Mathlib.Omega.{arith}
 use Rattle.probes.specs.Laws.{sound-gives}

@@ -1,4 +1,4 @@
--- `timetable::soonest` meets its contract: index and at are the next start of the first k probes. Assumes nothing.
+-- `upcoming::soonest` meets its contract: index and at are the next start of the first k probes. Assumes nothing.
 use mathlib.Core.Path.{_≡_, _∙_}
 use mathlib.Core.Logic.{⊎-elim}
 use Prim.Native.Nat.{_-_, _≤_, _<_}

@@ -1,4 +1,4 @@
--- `book::write` meets its contract: the ways out of specs/WriteLaws, and the blocks stored. Assumes nothing.
+-- `book::write` meets its contract: the ways out of crate volumes, specs/WriteLaws, and the blocks stored. Assumes nothing.
 use mathlib.Core.Path.{ap, _∙_}
 use native.Mathlib.Omega.{arith}
 use lib.ListN.{length}

@@ -1,4 +1,4 @@
-use Rattle.table.specs.Ways.{three-none, three-some}
+use Rattle.table.specs.Three.{three-none, three-some}
 use borrow.Author.Needs.{needs}
 use Rattle.table.proofs.Table.of.Statement.{statement}
 use Rattle.table.proofs.Table.of.Tie as tie

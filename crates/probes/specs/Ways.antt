@@ -1,20 +1,18 @@
 -- THE WAYS OUT OF THE JUDGE: what the tests on the way showed, as plain facts, and the verdict that they make.
 -- Assumes nothing.
-use mathlib.Core.Path.{_≡_, sym, _∙_}
+use mathlib.Core.Path.{_≡_}
 use mathlib.Core.Logic.{inl, inr}
 use mathlib.Core.List.{List, []}
-use Prim.Native.Nat.{ℕ, _/_, _≤_, _<_}
-use native.Mathlib.Nat.{div-zero}
+use Prim.Native.Nat.{ℕ, _≤_, _<_}
 use native.Mathlib.Omega.{arith}
 use lib.ListN.{length, getD}
 use borrow.Author.Tests.{eq-eqb, ne-eqb, lt-ltb, le-ltb}
 use Rattle.lists.specs.Lowest.{lowest, lowest-meets}
 use Rattle.lists.specs.Answering.{firstOf}
 use Rattle.words.specs.Answers.{refused, done}
-use Rattle.table.specs.declared.Table.{Table}
-use Rattle.probes.specs.Table.{mostProbes, mostPeriod, mostRows, shortest, longest, rows, BadPeriod}
+use Rattle.probes.specs.Table.{mostProbes, mostPeriod, mostRows, shortest, rows, BadPeriod}
 use Rattle.probes.specs.Verdict.{badPeriod, badLength, unchained, findings, verdict}
 use Rattle.probes.specs.Steps.{bad-period-tells}
 
 -- no period is out of range
 pub in-range : (Ts : List ℕ) → length Ts ≤ lowest (badPeriod Ts) (length Ts) → (k : ℕ) → k < length Ts → (0 < getD Ts k 0) × (getD Ts k 0 ≤ mostPeriod)
@@ -69,18 +67,3 @@ module _ (Ts ps : List ℕ) where
 pub bad-length-is : (Ts ps : List ℕ) (j w : ℕ) → w ≡ shortest Ts → length Ts ≡ length ps → j ≡ lowest (badLength w ps) (length ps)
     → j ≡ lowest (badLength (shortest Ts) ps) (length Ts)
 bad-length-is Ts ps j w e f g = rw (e, ← f) at g
-
--- w, M and H as the code computes them; a quotient by 0 is 0, as H of the empty table
-module _ (Ts : List ℕ) (w m : ℕ) (ew : w ≡ shortest Ts) (em : m ≡ longest Ts) where
-  abbrev pub ThreeOf : ℕ → Type 0
-  ThreeOf h = _≡_ {A = Table} (record { shortest = w; longest = m; rows = h }) (record { shortest = shortest Ts; longest = longest Ts; rows = rows Ts })
-
-  pub three-none : w ≡ 0 → ThreeOf 0
-  unfolding rows
-  three-none z =
-      let none : longest Ts / shortest Ts ≡ 0 = rw (sym ew ∙ z) (div-zero (longest Ts)) in
-      rw (ew, em, none)
-
-  pub three-some : ThreeOf (m / w)
-  unfolding rows
-  three-some = rw (ew, em)

@@ -9,10 +9,10 @@ use Rattle.lists.specs.Pick.{In}
 use Rattle.lists.specs.Refusals.{first-unique, first-numbers}
 use Rattle.words.specs.declared.Answer.{Answer}
 use Rattle.words.specs.Answers.{refused, done}
 use Rattle.probes.specs.Table.{mostProbes, lines, Differ, Sound}
 use Rattle.probes.specs.Verdict.{Validates, verdict}
 use Rattle.probes.specs.Laws.{validates-sound, sound-validates, verdict-meets}
-use Rattle.table.specs.Ways.{way-many}
+use Rattle.probes.specs.Ways.{way-many}
 
 module _ (Ts ps : List ℕ) where
   -- two answers that meet the promise are one
