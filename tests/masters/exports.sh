@@ -1,16 +1,10 @@
 #!/bin/sh
 # include/line.h as C and as C++, and the three exports called from C with exactly sized bytes.
-set -u
-cd "$(dirname "$0")/../.." || exit 2
-room=$(mktemp -d) || exit 2
-trap 'rm -rf "$room"' EXIT
+. "$(dirname "$0")/../common"
 strict="-Wall -Wextra -pedantic -Werror -Iinclude"
 what="masters: include/line.h stands alone as C99 and as C++"
-calls="masters: the exports called from C give every number of their list, the right 20 bytes, and touch no other"
-stop() { cat "$room/said"; echo "FAILED: $*"; exit 1; }
 
-[ "$(uname -m)" = x86_64 ] || { echo "FAILED: $calls (archives link on x86-64 alone, and this machine is $(uname -m))"; exit 1; }
-sh tests/made >"$room/said" 2>&1 || stop "$calls (there is no archive of masters)"
+made
 
 # twice in one file, and with every name of it used
 cat >"$room/uses.c" <<'END'
@@ -28,19 +22,20 @@ END
 cp "$room/uses.c" "$room/uses.cc"
 # shellcheck disable=SC2086
 for std in c99 c11; do
-    gcc -std=$std $strict "$room/uses.c" target/staticlib/libmasters.a -o "$room/uses" >"$room/said" 2>&1 || stop "$what (as $std)"
-    "$room/uses" >"$room/said" 2>&1 || stop "$what (as $std, what it calls answers otherwise)"
+    gcc -std=$std $strict "$room/uses.c" target/staticlib/libmasters.a -o "$room/uses" >"$room/said" 2>&1 || fail "as $std"
+    "$room/uses" >"$room/said" 2>&1 || fail "as $std, what it calls answers otherwise"
 done
 # shellcheck disable=SC2086
 for std in c++98 c++11 c++17; do
-    g++ -std=$std $strict "$room/uses.cc" target/staticlib/libmasters.a -o "$room/uses" >"$room/said" 2>&1 || stop "$what (as $std)"
-    "$room/uses" >"$room/said" 2>&1 || stop "$what (as $std, what it calls answers otherwise)"
+    g++ -std=$std $strict "$room/uses.cc" target/staticlib/libmasters.a -o "$room/uses" >"$room/said" 2>&1 || fail "as $std"
+    "$room/uses" >"$room/said" 2>&1 || fail "as $std, what it calls answers otherwise"
 done
 echo "ok: $what"
 
+what="masters: the exports called from C give every number of their list, the right 20 bytes, and touch no other"
 # shellcheck disable=SC2086
 gcc -std=c99 $strict -g -O2 -fsanitize=address,undefined -fno-sanitize-recover=all tests/masters/exports.c target/staticlib/libmasters.a -o "$room/exports" >"$room/said" 2>&1 ||
-    stop "$calls (the test cannot be built)"
-"$room/exports" >"$room/said" 2>&1 || stop "$calls"
+    fail "the test cannot be built"
+"$room/exports" >"$room/said" 2>&1 || fail "see above"
 cat "$room/said"
-echo "ok: $calls"
+echo "ok: $what"
