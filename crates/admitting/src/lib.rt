@@ -1,1 +1,2 @@
 // What the conversions and the planner ask before they write anything: specs/ alone, and no function.
+#![tactic(auto)]

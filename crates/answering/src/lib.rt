@@ -1,4 +1,6 @@
 // What an export gives: the answer of a book, in lent bytes.
+#![tactic(auto)]
+
 ghost use Rattle.exports.specs.Exports.{given, Exports};
 
 use questions::Question;

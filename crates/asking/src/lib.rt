@@ -1,4 +1,6 @@
 // What is asked of a table, a list and a tick before the timetable answers.
+#![tactic(auto)]
+
 ghost use Rattle.std.specs.Prelude.{◌≡◌};
 ghost use Rattle.hours.specs.Asking.{ask_verdict};
 

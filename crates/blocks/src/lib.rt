@@ -1,4 +1,6 @@
 // Whole blocks of a book.
+#![tactic(auto)]
+
 ghost use Rattle.std.specs.Prelude.{◌≡◌, ◌+◌, ◌*◌, ◌≤◌, ◌<◌, length};
 ghost use Rattle.std.proofs.lemmas.List.Edits.{sets};
 ghost use Rattle.sheets.specs.Layout.{first_edition, block_bytes, most_n, blocks_of};

@@ -1,4 +1,6 @@
 // Reading a book of any bytes; writing is passed on.
+#![tactic(auto)]
+
 ghost use Rattle.std.specs.Prelude.{◌<◌};
 ghost use Rattle.sheets.specs.Layout.{first_edition};
 ghost use Rattle.volumes.specs.Reading.{columns, Reads};

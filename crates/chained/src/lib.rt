@@ -1,4 +1,6 @@
 // Number 5: of any two periods of the table one divides the other.
+#![tactic(auto)]
+
 ghost use Rattle.std.specs.Prelude.{◌≡◌, ℕ, ◌≤◌, ◌<◌, length, get_or};
 ghost use Rattle.lists.specs.Pick.{Tells};
 ghost use Rattle.lists.specs.Lowest.{lowest};

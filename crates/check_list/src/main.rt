@@ -1,4 +1,6 @@
 // Reads a book from standard input and checks its list of starts.
+#![tactic(auto)]
+
 use first_lines::Printed;
 use libc::{STDIN_FILENO, STDOUT_FILENO};
 use pages::Page;

@@ -1,4 +1,6 @@
 // The whole text that `check` prints of a book of any bytes, put into lent bytes.
+#![tactic(auto)]
+
 ghost use Rattle.paper.specs.Paper.{paper, CheckPrints};
 
 use first_lines::Printed;

@@ -1,4 +1,6 @@
 // The checker: whether a list is clean on the wire, and if not, the least pair that meets and its first shared tick.
+#![tactic(auto)]
+
 ghost use Rattle.std.specs.Prelude.{◌≡◌, ◌<◌, length};
 ghost use Rattle.probes.specs.Table.{widths};
 ghost use Rattle.meetings.specs.Check.{partner, meeting_of, Checks};

@@ -1,4 +1,6 @@
 // Columns of a table: the least and the longest period, and the lowest place whose period, length or start is not permitted.
+#![tactic(auto)]
+
 ghost use Rattle.std.specs.Prelude.{◌≡◌, ℕ, ◌≤◌, length};
 ghost use Rattle.lists.specs.Lowest.{lowest};
 ghost use Rattle.probes.specs.Columns.{shortest, longest, bad_period, bad_length, late};

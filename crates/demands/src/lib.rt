@@ -1,1 +1,2 @@
 // What the calls give together: specs/ alone, and no function.
+#![tactic(auto)]

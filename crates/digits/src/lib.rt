@@ -1,4 +1,6 @@
 // Numbers in digits over twelve ratios.
+#![tactic(auto)]
+
 ghost use Rattle.std.specs.Prelude.{◌≡◌, reverse, ◌≤◌};
 ghost use Rattle.probes.specs.Table.{most_rows};
 ghost use Rattle.chain.specs.Digits.{product, digits, AllPositive, Digits};

@@ -1,4 +1,6 @@
 // The text of a table that is planned.
+#![tactic(auto)]
+
 ghost use Rattle.std.specs.Prelude.{◌≡◌, ◌≤◌, length};
 ghost use Rattle.probes.specs.Table.{most_probes};
 ghost use Rattle.text.specs.Putting.{Put};

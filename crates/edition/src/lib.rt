@@ -1,4 +1,6 @@
 // The book's limits that the first edition fixes, the numbers in its bytes, and how many blocks and records there are.
+#![tactic(auto)]
+
 ghost use Rattle.std.specs.Prelude.{◌≡◌, ◌+◌, ◌*◌, ◌≤◌, ◌-◌, ◌<◌, length};
 ghost use Rattle.sheets.specs.Bytes.{byte_values, word};
 ghost use Rattle.sheets.specs.Layout.{first_edition, block_bytes, head_bytes, sum_place, sum_place2, most_n, blocks_of, records_of};

@@ -1,4 +1,6 @@
 // The parts of a block that is written: its first bytes, its zeros, its sums.
+#![tactic(auto)]
+
 ghost use Rattle.std.specs.Prelude.{◌≡◌, ◌-◌, ◌≤◌, ◌<◌, length, take, replicate};
 ghost use Rattle.std.proofs.lemmas.List.Edits.{sets};
 ghost use Rattle.sheets.specs.Layout.{first_edition, block_bytes, sum_place, most_n, blocks_of};

@@ -1,4 +1,6 @@
 // The first lines that the programs print, put into lent bytes.
+#![tactic(auto)]
+
 ghost use Rattle.std.specs.Prelude.{◌≡◌, ◌≤◌, length};
 ghost use Rattle.text.specs.Putting.{Put};
 ghost use Rattle.lines.specs.Lines.{answer_line, check_line, head_line};

@@ -1,4 +1,6 @@
 // Corners and starts, one probe at a time.
+#![tactic(auto)]
+
 ghost use Rattle.std.specs.Prelude.{◌≡◌, ◌<◌, length, get_or};
 ghost use Rattle.chain.specs.Corners.{corner_x, corner_y, start_of};
 ghost use Rattle.chain.specs.CornerLaws.{OnGrid};

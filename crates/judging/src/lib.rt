@@ -1,4 +1,6 @@
 // What one block of the book must be: the verdict 21, 22 or 23, or none.
+#![tactic(auto)]
+
 ghost use Rattle.std.specs.Prelude.{◌≡◌, Bool, ℕ, ◌≤◌, ◌<◌, length};
 ghost use Rattle.sheets.specs.Layout.{first_edition, block_bytes, most_n, blocks_of};
 ghost use Rattle.sheets.specs.Block.{wrong_sum, wrong_field, used_unused, block_verdict};

@@ -1,1 +1,2 @@
 // Laws on lists, searches and refusals that more than one crate needs: specs/ alone, and no function.
+#![tactic(auto)]

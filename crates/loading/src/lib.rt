@@ -1,4 +1,6 @@
 // What a book holds: its size, the first bad block, and a column of its records.
+#![tactic(auto)]
+
 ghost use Rattle.std.specs.Prelude.{◌≡◌, Bool, false, ◌++◌, ℕ, ◌*◌, ◌≤◌, length, drop};
 ghost use Rattle.sheets.specs.Layout.{first_edition, block_bytes, most_n, blocks_of};
 ghost use Rattle.sheets.specs.Blocks.{bad_size, judged_blocks, column};

@@ -1,4 +1,6 @@
 // The exports for masters: a book's bytes, a tick for the timetable, and 20 lent bytes for the answer.
+#![tactic(auto)]
+
 ghost use Rattle.questions.specs.declared.Question.TheVariants.{IsClean, HolderAt, StartFrom};
 ghost use Rattle.exports.specs.Exports.{given, Exports};
 

@@ -1,4 +1,6 @@
 // One probe and a tick: whether it holds the tick, and when it starts next.
+#![tactic(auto)]
+
 ghost use Rattle.std.specs.Prelude.{◌≡◌, ◌≤◌, ◌<◌};
 ghost use Rattle.words.specs.Ticks.{last_tick};
 ghost use Rattle.wire.specs.Window.{holds};

@@ -1,1 +1,2 @@
 // The order in which probes are planned: specs/ alone, and no function.
+#![tactic(auto)]

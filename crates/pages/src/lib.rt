@@ -1,4 +1,6 @@
 // The whole text that `plan` prints of a book of any bytes, put into lent bytes; the page of `check` is passed on.
+#![tactic(auto)]
+
 ghost use Rattle.std.specs.Prelude.{◌≡◌};
 ghost use Rattle.paper.specs.Paper.{most_plan, most_input, paper, PlanPrints};
 

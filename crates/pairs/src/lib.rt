@@ -1,4 +1,6 @@
 // Two probes of a list: whether they ever meet, and the first tick that they share.
+#![tactic(auto)]
+
 ghost use Rattle.std.specs.Prelude.{◌≡◌, ◌≤◌, ◌<◌, length};
 ghost use Rattle.wire.specs.Meeting.{lag, apart_at, tick_at};
 ghost use Rattle.probes.specs.Table.{most_period};

@@ -1,4 +1,6 @@
 // One probe put into the rows.
+#![tactic(auto)]
+
 ghost use Rattle.placing.specs.Placing.{Ready, Tried};
 
 use flipping::Chain;

@@ -1,4 +1,6 @@
 // Reads a book from standard input and prints its plan.
+#![tactic(auto)]
+
 use libc::{STDIN_FILENO, STDOUT_FILENO};
 use pages::Page;
 

@@ -1,4 +1,6 @@
 // Columns of corners and of starts: the first corner off the grid, and every corner or start written.
+#![tactic(auto)]
+
 ghost use Rattle.std.specs.Prelude.{◌≡◌, ℕ, ◌≤◌, ◌<◌, length, get_or};
 ghost use Rattle.lists.specs.Lowest.{lowest};
 ghost use Rattle.lists.specs.Counted.{filled};

@@ -1,1 +1,2 @@
 // What the conversions and the planner promise: specs/ and theorems of the promises alone, and no function.
+#![tactic(auto)]

@@ -1,4 +1,6 @@
 // What the bytes of a book answer to a question: the book is read, then the library's call is made on its columns.
+#![tactic(auto)]
+
 ghost use Rattle.questions.specs.Replies.{Replies, Answers};
 
 use edition::Book;

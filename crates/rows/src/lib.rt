@@ -1,4 +1,6 @@
 // The fills of the rows: cleared, searched for the lowest sub-bin with room, and raised.
+#![tactic(auto)]
+
 ghost use Rattle.std.specs.Prelude.{◌≡◌, ℕ, ◌+◌, ◌*◌, ◌≤◌, ◌<◌, length, get_or, replicate};
 ghost use Rattle.std.specs.Int.{◌∣◌};
 ghost use Rattle.stack.specs.Stack.{raise, raised, lowest_bin};

@@ -1,4 +1,6 @@
 // The probes put into the rows, one after another in planning order.
+#![tactic(auto)]
+
 ghost use Rattle.std.specs.Prelude.{◌≡◌, List, ℕ, ◌≤◌, ◌<◌, length, get_or, take, drop};
 ghost use Rattle.probes.specs.Table.{most_probes, rows, shortest};
 ghost use Rattle.order.specs.Order.{order};

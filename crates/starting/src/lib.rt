@@ -1,4 +1,6 @@
 // Corners to starts. Any table and any lent columns: a refusal writes nothing.
+#![tactic(auto)]
+
 ghost use Rattle.std.specs.Prelude.{◌≡◌};
 ghost use Rattle.lists.specs.Answering.{first_of};
 ghost use Rattle.words.specs.Answers.{refused, done};

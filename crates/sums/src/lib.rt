@@ -1,4 +1,6 @@
 // The two sums of a block, and a run of zeros.
+#![tactic(auto)]
+
 ghost use Rattle.std.specs.Prelude.{◌≡◌, false, ◌+◌, ◌*◌, ◌≤◌, ◌<◌, length, take, drop};
 ghost use Rattle.sheets.specs.Bytes.{byte_sum, place_sum, all_zero};
 ghost use Rattle.sheets.specs.Layout.{block_bytes, sum_place};

@@ -1,4 +1,6 @@
 // The table of probes: its least and longest period, and the judges of numbers 1 to 6 and 9, which every other call composes.
+#![tactic(auto)]
+
 ghost use Rattle.std.specs.Prelude.{◌≡◌, ℕ, ◌≤◌};
 ghost use Rattle.probes.specs.Table.{most_probes, most_rows, shortest, longest, rows};
 ghost use Rattle.probes.specs.Verdict.{verdict, Validates};

@@ -1,4 +1,6 @@
 // An answer in lent bytes.
+#![tactic(auto)]
+
 ghost use Rattle.std.specs.Prelude.{◌≡◌, ◌++◌, ◌≤◌, length, drop};
 ghost use Rattle.telling.specs.Shown.{answer_bytes, shown};
 

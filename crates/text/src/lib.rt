@@ -1,4 +1,6 @@
 // Text in lent bytes: a number in decimal at a place, and a number with what ends it. Each call answers the place behind what it wrote.
+#![tactic(auto)]
+
 ghost use Rattle.std.specs.Prelude.{◌++◌, [], ◌∷◌, ◌+◌, ◌≤◌, length};
 ghost use Rattle.text.specs.Text.{decimal};
 ghost use Rattle.text.specs.Putting.{Put};

@@ -1,4 +1,6 @@
 // Who holds a tick, of a sound table and list, clean or not; the next start is passed on.
+#![tactic(auto)]
+
 ghost use Rattle.std.specs.Prelude.{◌≡◌, length};
 ghost use Rattle.lists.specs.Lowest.{lowest};
 ghost use Rattle.hours.specs.Timetable.{holds_test, Holder};

@@ -1,5 +1,7 @@
 // Every public call on columns as an export on slices, for tests and benchmarks alone.
 // The answer goes into `out` as five numbers, where it is long enough: number, index, second index, the tick's lower and upper half.
+#![tactic(auto)]
+
 use words::Answer;
 
 pub fn tell(given: Answer, out: &mut [u32]) {

@@ -1,4 +1,6 @@
 // When the next read starts, of a sound table and list, clean or not.
+#![tactic(auto)]
+
 ghost use Rattle.std.specs.Prelude.{◌≡◌, length};
 ghost use Rattle.hours.specs.Timetable.{next_of, NextFrom};
 ghost use Rattle.hours.specs.Asking.{Timed};

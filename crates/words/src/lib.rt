@@ -1,4 +1,6 @@
 // The words that every crate shares: an answer, its mark, the last tick that may be asked about and the longest period.
+#![tactic(auto)]
+
 ghost use Rattle.std.specs.Prelude.{◌≡◌};
 ghost use Rattle.words.specs.Answers.{pair, refused, done, mark};
 ghost use Rattle.words.specs.Ticks.{last_tick, too_late, most_period};

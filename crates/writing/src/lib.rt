@@ -1,4 +1,6 @@
 // Writing a book.
+#![tactic(auto)]
+
 ghost use Rattle.std.specs.Prelude.{◌*◌, ◌<◌};
 ghost use Rattle.sheets.specs.Layout.{first_edition};
 ghost use Rattle.volumes.specs.Writing.{pages, Writes};

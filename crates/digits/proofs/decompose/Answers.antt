@@ -1,0 +1,24 @@
+-- `digits::decompose` meets its contract. The loop's invariant: the first digits, as many as place says, stand in d, and rest has the others. The measure is what is left of the twelve.
+-- Assumes nothing.
+use borrow.Author.Rules.{rules}
+use native.Mathlib.Omega.{arith}
+use Prim.Native.Nat.{◌-◌}
+use Rattle.chain.specs.Ratios.{most_ratios}
+use Rattle.chain.specs.Passes.{Decomposing, decomposing-next, decomposing-done, positive-at}
+use Rattle.digits.proofs.decompose.Goals as goal
+
+pub nonzero_rem-d : goal.nonzero_rem-d
+nonzero_rem-d c = positive-at _ c.loop-place.place c.requires (omega arith)
+
+pub nonzero_div-rest : goal.nonzero_div-rest
+nonzero_div-rest c = positive-at _ c.loop-place.place c.requires (omega arith)
+
+pub loop-place-preserved : goal.loop-place-preserved
+loop-place-preserved c =
+    let l = c.loop-place in
+    decomposing-next _ _ l.d l.rest l.place l.invariant (omega arith)
+
+pub returns : goal.returns
+returns c =
+    let l = c.loop-place in
+    decomposing-done _ _ l.d l.rest l.place l.invariant (omega arith)

@@ -1,0 +1,45 @@
+-- `pairs::tick_at` meets its contract: the probe of the shorter period goes first. Assumes nothing.
+use mathlib.Core.Path.{◌∙◌}
+use native.Mathlib.Omega.{arith}
+use Rattle.pairs.specs.Probes.{passes-ordered}
+use Rattle.pairs.specs.Steps.{by_first, by-second}
+use borrow.Author.Rules.{rules}
+use Rattle.pairs.proofs.tick_at.Goals as goal
+
+pub shared_tick-requires : goal.shared_tick-requires
+shared_tick-requires c =
+    let Ts = c.args.periods.now in
+    let ps = c.args.lengths.now in
+    let ss = c.args.starts.now in
+    let i = c.args.i in
+    let j = c.args.j in
+    passes-ordered Ts ps ss i j _ _ c.at-one.ensures c.at-other.ensures
+    c.requires.passes (omega arith) (omega arith) (omega arith)
+
+pub returns-then-one-other : goal.returns-then-one-other
+returns-then-one-other c =
+    let Ts = c.args.periods.now in
+    let ps = c.args.lengths.now in
+    let ss = c.args.starts.now in
+    let i = c.args.i in
+    let j = c.args.j in
+    c.shared_tick.ensures ∙ (by_first Ts ps ss i j _ _ c.at-one.ensures c.at-other.ensures (omega arith)).1
+
+pub shared_tick-requires-2 : goal.shared_tick-requires-2
+shared_tick-requires-2 c =
+    let Ts = c.args.periods.now in
+    let ps = c.args.lengths.now in
+    let ss = c.args.starts.now in
+    let i = c.args.i in
+    let j = c.args.j in
+    passes-ordered Ts ps ss j i _ _ c.at-other.ensures c.at-one.ensures
+    c.requires.passes (omega arith) (omega arith) (omega arith)
+
+pub returns : goal.returns
+returns c =
+    let Ts = c.args.periods.now in
+    let ps = c.args.lengths.now in
+    let ss = c.args.starts.now in
+    let i = c.args.i in
+    let j = c.args.j in
+    c.shared_tick-2.ensures ∙ (by-second Ts ps ss i j _ _ c.at-one.ensures c.at-other.ensures (omega arith)).1

@@ -1,0 +1,16 @@
+-- `sums::place_sum` meets its contract: the sum so far is that of the places passed. Assumes nothing.
+use mathlib.Core.Path.{◌≡◌, refl, ap, ◌∙◌}
+use Prim.Native.Nat.{ℕ, ◌+◌, ◌-◌, ◌*◌, ◌≤◌}
+use native.Mathlib.Omega.{arith}
+use lib.ListN.{take, get_or}
+use Rattle.sheets.specs.Bytes.{place_sum}
+use Rattle.sheets.specs.Layout.{sum_place}
+use Rattle.sheets.specs.ByteLaws.{place-next, place-part}
+use borrow.Author.Rules.{rules}
+use Rattle.sums.proofs.place_sum.Given as goal
+
+abbrev pub invariant-loop-place : goal.invariant-loop-place
+invariant-loop-place l = (l.place ≤ sum_place) × (l.sum ≡ place_sum 0 (take l.place l.block)) × (l.sum ≤ 128520 * l.place)
+
+abbrev pub decreases-loop-place : goal.decreases-loop-place
+decreases-loop-place l = sum_place - l.place

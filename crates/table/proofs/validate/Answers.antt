@@ -1,0 +1,7 @@
+-- `table::validate` meets its promise: it answers what the judge answers. Assumes nothing.
+use Rattle.probes.specs.Laws.{verdict-meets}
+use borrow.Author.Rules.{rules}
+use Rattle.table.proofs.validate.Goals as goal
+
+pub returns : goal.returns
+returns c = rw c.judge.ensures (verdict-meets _ _)
