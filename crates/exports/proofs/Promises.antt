@@ -5,7 +5,7 @@
 --     export-reads, reads-export    it is the same as reading the book and then making the library's call
 --     check-, holder-, next-start-export-numbers    the numbers that it can give: never 1, 2 or 24
 -- Assumes nothing.
-use mathlib.Core.Path.{◌≡◌, refl, sym, ap, ◌∙◌}
+use mathlib.Core.Path.{◌≡◌, refl, sym, ap, subst, ◌∙◌}
 use mathlib.Core.Logic.{◌⊎◌, inl, inr, ⊎_elim}
 use mathlib.Core.List.{List, [], ◌∷◌, ◌++◌}
 use Prim.Native.Nat.{ℕ, ◌≤◌, ◌<◌}
@@ -130,7 +130,7 @@ module _ (bs : List ℕ) (a : Answer) where
 export-number : (q : Question) (bs out : List ℕ) (ns : List ℕ) → ((a : Answer) → Answers q bs a → In a.number ns) → (o : Given) → Exports q bs out o → In o.number (7 ∷ ns)
 unfolding Exports First In
 export-number q bs out ns each o (inl (i, at, e)) = inl (ap (λ (g : Given). g.number) e)
-export-number q bs out ns each o (inr (s, (a, p, e))) = inr (rw (ap (λ (g : Given). g.number) e) (each a p))
+export-number q bs out ns each o (inr (s, (a, p, e))) = inr (subst (λ (k : ℕ). In k ns) (sym (ap (λ (g : Given). g.number) e)) (each a p))
 
 module _ (bs out : List ℕ) (o : Given) where
   pub check-export-numbers : Exports IsClean bs out o → In o.number (7 ∷ 20 ∷ 21 ∷ 22 ∷ 23 ∷ 3 ∷ 4 ∷ 5 ∷ 6 ∷ 9 ∷ 0 ∷ 10 ∷ [])

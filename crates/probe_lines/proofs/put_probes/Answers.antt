@@ -30,4 +30,4 @@ returns c =
     let l = c.loop-i in
     let a = c.args in
     let e : l.i ≡ length a.periods.now = omega (arith, l.invariant.0) in
-    rw (← e) (l.invariant.1, l.invariant.2)
+    rw (← e) (record { put = l.invariant.1; upper_bound = l.invariant.2 })

@@ -4,10 +4,8 @@ use native.Mathlib.Omega.{arith}
 use lib.ListN.{length}
 use Rattle.rows.specs.Passing.{Passing, passing-start, passing-length, passing-at, passing-next, passing-done}
 use borrow.Author.Rules.{rules}
+use Rattle.rows.proofs.raise.Invariants.{plus}
 use Rattle.rows.proofs.raise.Goals as goal
-
-abbrev plus : ℕ → ℕ → ℕ
-plus p x = x + p
 
 pub loop-row-init : goal.loop-row-init
 loop-row-init c = passing-start _ _

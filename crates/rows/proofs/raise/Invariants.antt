@@ -6,6 +6,9 @@ use Rattle.rows.specs.Passing.{Passing, passing-start, passing-length, passing-a
 use borrow.Author.Rules.{rules}
 use Rattle.rows.proofs.raise.Given as goal
 
+abbrev pub plus : ℕ → ℕ → ℕ
+plus p x = x + p
+
 abbrev pub invariant-loop-row : goal.invariant-loop-row
 invariant-loop-row l = Passing (plus l.p) l.initial.part l.part l.row
 

@@ -10,7 +10,7 @@ use borrow.Author.Rules.{rules}
 use Rattle.sums.proofs.all_zero.Given as goal
 
 abbrev pub invariant-loop-at : goal.invariant-loop-at
-invariant-loop-at l = (l.at ≤ sum_place) × (all_zero (drop l.at (take sum_place l.block)) ≡ all_zero (drop «l.from» (take sum_place l.block)))
+invariant-loop-at l = (l.at ≤ sum_place) × (all_zero (drop l.at (take sum_place l.block)) ≡ all_zero (drop l.from (take sum_place l.block)))
 
 abbrev pub decreases-loop-at : goal.decreases-loop-at
 decreases-loop-at l = sum_place - l.at

@@ -9,6 +9,7 @@ use Rattle.hours.specs.Timetable.{next_of}
 use Rattle.hours.specs.NextLaws.{next-none, next_one, turn-sooner, turn-kept, next-all}
 use borrow.Author.Rules.{rules}
 use Rattle.upcoming.proofs.soonest.Goals as goal
+use Rattle.upcoming.proofs.soonest.Goals.{then-x-at, else-x-at}
 
 pub returns-then-periods-eq0 : goal.returns-then-periods-eq0
 returns-then-periods-eq0 c =
@@ -53,9 +54,10 @@ loop-k-preserved c =
     let l = c.loop-k in (
       omega arith,
       omega arith,
-      ⊎_elim (λ w. turn-sooner Ts ss t l.index l.at l.k _ _ _ (omega arith) l.invariant.2 c.first_from-x.ensures w.0.taken w.1 w.2)
-          (λ w. turn-kept Ts ss t l.index l.at l.k _ _ _ (omega arith) l.invariant.2 c.first_from-x.ensures w.0.left w.1 w.2)
-          c.if-x-at.branch,
+      elim c.if-x-at.branch [
+        then-x-at w ↦ turn-sooner Ts ss t l.index l.at l.k _ _ _ (omega arith) l.invariant.2 c.first_from-x.ensures w.if-x-at.true w.index-is w.at-is
+      | else-x-at w ↦ turn-kept Ts ss t l.index l.at l.k _ _ _ (omega arith) l.invariant.2 c.first_from-x.ensures w.if-x-at.false w.index-is w.at-is
+      ],
     )
 
 pub returns : goal.returns
