@@ -10,7 +10,7 @@ use flipping::Chain;
 use table::Table;
 
 // The lower left corner of a read's rectangle.
-#[derive(Drop)]
+#[derive(Clone, Copy)]
 pub struct Corner {
     pub x: u32,
     pub y: u32,

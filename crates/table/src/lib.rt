@@ -11,7 +11,7 @@ use columns::{bad_length, bad_period, greatest, late, least};
 use words::Answer;
 
 // What every later layer asks of a table: w, M and H. All are 0 for the empty table.
-#[derive(Drop)]
+#[derive(Clone, Copy)]
 pub struct Table {
     pub shortest: u32,
     pub longest: u32,

@@ -6,4 +6,4 @@ use Rattle.filling.proofs.put_sums.Goals as goal
 
 pub returns : goal.returns
 unfolding bytes sums_of
-returns c = rw (c.put4-2.ensures, c.put4.ensures, c.place_sum-sum2.ensures, c.byte-sum.ensures)
+returns c = rw (c.put4-2.ensures, c.put4.ensures, c.place_sum-sum2.ensures, c.byte_sum-sum.ensures)

@@ -13,6 +13,12 @@ use Rattle.timetable.proofs.holding.Goals as goal
 pub loop-i-init : goal.loop-i-init
 loop-i-init c = searching-start _ _
 
+pub bounds-lengths-i : goal.bounds-lengths-i
+bounds-lengths-i c =
+    let Ts = c.args.periods.now in
+    let ps = c.args.lengths.now in
+    omega (arith, (sound-gives Ts ps c.requires.sound).same)
+
 pub holds-held-requires : goal.holds-held-requires
 holds-held-requires c =
     let Ts = c.args.periods.now in
