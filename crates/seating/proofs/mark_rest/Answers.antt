@@ -35,8 +35,8 @@ bounds-starts-i c =
 pub loop-l-preserved : goal.loop-l-preserved
 loop-l-preserved c =
     let l = c.loop-l in
-    let long : length (take c.args.n c.args.t1) ≡ c.args.n = length-take-le _ _ (omega arith) in
-    (omega arith, marking-next _ _ _ l.starts l.l _ (omega arith) (sym (get_or-take c.args.n c.args.t1 l.l 0 (omega arith))) l.invariant.1)
+    let long : length (take c.args.n c.args.turns) ≡ c.args.n = length-take-le _ _ (omega arith) in
+    (omega arith, marking-next _ _ _ l.starts l.l _ (omega arith) (sym (get_or-take c.args.n c.args.turns l.l 0 (omega arith))) l.invariant.1)
 
 pub shape_of-starts : goal.shape_of-starts
 shape_of-starts c =
@@ -46,5 +46,5 @@ shape_of-starts c =
 pub returns : goal.returns
 returns c =
     let l = c.loop-l in
-    let long : length (take c.args.n c.args.t1) ≡ c.args.n = length-take-le _ _ (omega arith) in
+    let long : length (take c.args.n c.args.turns) ≡ c.args.n = length-take-le _ _ (omega arith) in
     marking-done _ _ _ l.starts l.l (omega arith) l.invariant.1

@@ -33,8 +33,8 @@ overflow_cast-i c =
     let Ts = a.periods.now in
     let ps = a.lengths.now in
     let l = c.loop-k in
-    let e = order-entry Ts ps a.t3 l.k p.turns_value (omega arith) in
-    let probe : get_or a.t3 l.k 0 < length Ts = rw e (order-probe Ts ps l.k (omega arith)) in
+    let e = order-entry Ts ps a.turns l.k p.turns_value (omega arith) in
+    let probe : get_or a.turns l.k 0 < length Ts = rw e (order-probe Ts ps l.k (omega arith)) in
     omega arith
 
 pub place-placed-requires : goal.place-placed-requires
@@ -44,15 +44,15 @@ place-placed-requires c =
     let Ts = a.periods.now in
     let ps = a.lengths.now in
     let l = c.loop-k in
-    let e = order-entry Ts ps a.t3 l.k p.turns_value (omega arith) in
-    let probe : get_or a.t3 l.k 0 < length Ts = rw e (order-probe Ts ps l.k (omega arith)) in
+    let e = order-entry Ts ps a.turns l.k p.turns_value (omega arith) in
+    let probe : get_or a.turns l.k 0 < length Ts = rw e (order-probe Ts ps l.k (omega arith)) in
     record {
       prepared = p.prepared;
       probe = probe;
       read = omega arith;
       entry = omega (arith, l.invariant.s-long);
-      some = (p.by_index (get_or a.t3 l.k 0) probe).0;
-      short = (p.by_index (get_or a.t3 l.k 0) probe).1;
+      some = (p.by_index (get_or a.turns l.k 0) probe).0;
+      short = (p.by_index (get_or a.turns l.k 0) probe).1;
       long = l.invariant.f-long;
       light = λ r h. omega (arith, l.invariant.light r h);
     }
@@ -64,10 +64,10 @@ mark_rest-requires c =
     let Ts = a.periods.now in
     let ps = a.lengths.now in
     let l = c.loop-k in
-    let e = order-entry Ts ps a.t3 l.k p.turns_value (omega arith) in
-    let probe : get_or a.t3 l.k 0 < length Ts = rw e (order-probe Ts ps l.k (omega arith)) in
+    let e = order-entry Ts ps a.turns l.k p.turns_value (omega arith) in
+    let probe : get_or a.turns l.k 0 < length Ts = rw e (order-probe Ts ps l.k (omega arith)) in
     let still = c.place-placed.ensures.stayed c.if-not-placed.true in
-    record { k_le_n = (omega arith, omega arith); by_index = λ k h. omega (arith, order-entry Ts ps a.t3 k p.turns_value h, order-probe Ts ps k h, ap length still.0, l.invariant.s-long) }
+    record { k_le_n = (omega arith, omega arith); by_index = λ k h. omega (arith, order-entry Ts ps a.turns k p.turns_value h, order-probe Ts ps k h, ap length still.0, l.invariant.s-long) }
 
 pub shape_of-starts-then-not-placed : goal.shape_of-starts-then-not-placed
 shape_of-starts-then-not-placed c = marked-long _ _ _ _ c.args.starts.now c.mark_rest.ensures (c.place-placed.ensures.stayed c.if-not-placed.true).0 c.loop-k.invariant.s-long
@@ -83,8 +83,8 @@ returns-then-not-placed c =
     let ps = a.lengths.now in
     let l = c.loop-k in
     let h : l.k < length Ts = omega arith in
-    stuck-end Ts ps a.t3 a.starts.now a.fills.now l.starts l.fills l.k p.turns_value l.invariant h (get_or a.t3 l.k 0)
-    (order-entry Ts ps a.t3 l.k p.turns_value h) _ _ _ c.place-placed.ensures
+    stuck-end Ts ps a.turns a.starts.now a.fills.now l.starts l.fills l.k p.turns_value l.invariant h (get_or a.turns l.k 0)
+    (order-entry Ts ps a.turns l.k p.turns_value h) _ _ _ c.place-placed.ensures
     c.if-not-placed.true _ _ c.refused.ensures c.mark_rest.ensures
 
 pub overflow_add-k : goal.overflow_add-k
@@ -99,9 +99,9 @@ loop-k-preserved c =
     let Ts = a.periods.now in
     let ps = a.lengths.now in
     let l = c.loop-k in
-    let e = order-entry Ts ps a.t3 l.k p.turns_value (omega arith) in
-    let probe : get_or a.t3 l.k 0 < length Ts = rw e (order-probe Ts ps l.k (omega arith)) in
-    seating-next Ts ps a.starts.now a.fills.now l.starts l.fills l.k l.invariant (omega arith) (get_or a.t3 l.k 0) e _ _ _ c.place-placed.ensures c.if-not-placed.false (omega (arith, (p.by_index (get_or a.t3 l.k 0) probe).1, p.prepared.most _ probe, Rattle.probes.specs.Extremes.shortest-least Ts (get_or a.t3 l.k 0) probe))
+    let e = order-entry Ts ps a.turns l.k p.turns_value (omega arith) in
+    let probe : get_or a.turns l.k 0 < length Ts = rw e (order-probe Ts ps l.k (omega arith)) in
+    seating-next Ts ps a.starts.now a.fills.now l.starts l.fills l.k l.invariant (omega arith) (get_or a.turns l.k 0) e _ _ _ c.place-placed.ensures c.if-not-placed.false (omega (arith, (p.by_index (get_or a.turns l.k 0) probe).1, p.prepared.most _ probe, Rattle.probes.specs.Extremes.shortest-least Ts (get_or a.turns l.k 0) probe))
 
 pub shape_of-starts : goal.shape_of-starts
 shape_of-starts c = c.loop-k.invariant.s-long
