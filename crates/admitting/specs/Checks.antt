@@ -16,8 +16,9 @@ use Rattle.words.specs.declared.Answer.{Answer}
 use Rattle.words.specs.Answers.{refused, done}
 use Rattle.probes.specs.Table.{lines, late_line, Differ, DifferThree, rows}
 use Rattle.probes.specs.Verdict.{findings, verdict}
-use Rattle.probes.specs.Laws.{findings-find, late_meets}
-use Rattle.probes.specs.Composing.{Numbered, numbered-append, findings-numbered, compose-done, compose-refused, refusal_is}
+use Rattle.probes.proofs.Laws.{findings-find, late_meets}
+use Rattle.probes.specs.Composing.{Numbered}
+use Rattle.probes.proofs.Composing.{numbered-append, findings-numbered, compose-done, compose-refused, refusal_is}
 use Rattle.chain.specs.Grid.{OffGridAt, off_grid}
 use Rattle.chain.specs.Grid.{off-grid-tells}
 use Rattle.stack.specs.FirstFit.{plan_lines, plan_findings}

@@ -7,11 +7,11 @@ use Rattle.lists.specs.Lowest.{lowest, lowest_from}
 use Rattle.lists.specs.Answering.{first_of}
 use Rattle.wire.specs.Wire.{Clean}
 use Rattle.wire.specs.Meeting.{lag, apart, shared_tick, apart_at, tick_at, apart_below, clean_below, clean}
-use Rattle.wire.specs.CleanTest.{clean-tells}
+use Rattle.wire.proofs.CleanTest.{clean-tells}
 use Rattle.probes.specs.Table.{least_of, greatest_of, shortest, longest, rows, height, widths}
 use Rattle.probes.specs.Verdict.{divides, chained, bad_period, bad_length, unchained, late, findings, list_findings, verdict}
-use Rattle.probes.specs.Laws.{passes-sound, sound-gives}
-use Rattle.probes.specs.Widths.{sound-positive}
+use Rattle.probes.proofs.Laws.{passes-sound, sound-gives}
+use Rattle.probes.proofs.Widths.{sound-positive}
 use Rattle.chain.specs.Digits.{product, digits}
 use Rattle.chain.specs.Flip.{turned, levels}
 use Rattle.chain.specs.Flip.Formula.{flip-computes, unflip-computes}

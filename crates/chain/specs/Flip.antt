@@ -4,8 +4,6 @@
 --     flip bs m v       the sub-bin of slot v, of m slots                                               (shut: known by its laws alone)
 --     unflip bs m j     the slot of sub-bin j, of m slots                                               (shut)
 -- Assumes nothing.
-pub mod Laws
-pub mod Steps
 pub mod Formula
 use Rattle.std.specs.Prelude.{List, [], ◌∷◌, reverse, ℕ, ◌+◌, ◌*◌, ◌/◌, eqb}
 use Rattle.lists.specs.Pick.{pick}

@@ -2,16 +2,11 @@ pub mod Digits
 pub mod Products
 pub mod Values
 pub mod Flip
-pub mod Mirror
-pub mod Levels
 pub mod Ratios
 pub mod Climbing
 pub mod Quotients
-pub mod RatioLaws
-pub mod Twelve
 pub mod Slotted
 pub mod Passes
-pub mod Gathering
 pub mod Corners
 pub mod CornerLaws
 pub mod Grid

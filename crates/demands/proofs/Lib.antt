@@ -1,1 +1,3 @@
 pub mod Premises
+pub mod Meeting
+pub mod Demands

@@ -14,7 +14,7 @@ use Rattle.probes.specs.Columns.{least_of, greatest_of, shortest, longest, bad_p
 use Rattle.probes.specs.Table.{Sound, rows, height, widths}
 use Rattle.probes.specs.Chained.{divides, chained, unchained}
 use Rattle.probes.specs.Verdict.{findings, list_findings, verdict}
-use Rattle.probes.specs.Laws.{passes-sound, sound-gives}
+use Rattle.probes.proofs.Laws.{passes-sound, sound-gives}
 use Rattle.chain.specs.Corners.{OffGrid}
 use Rattle.stack.specs.Room.{Room, busy_of, busy_ticks, longest_read}
 use Rattle.meetings.specs.Check.{Checks, partner, opener, meeting_of, checked}

@@ -5,9 +5,10 @@
 use Rattle.std.specs.Prelude.{◌≡◌, List, ℕ, ◌*◌, ◌≤◌, ◌<◌, length, get_or}
 use Rattle.std.proofs.Common.{sym, ap, ◌∙◌, mul_comm, arith}
 use Rattle.lists.specs.Sums.{sum_below, sum_below-same}
-use Rattle.wire.specs.Window.{held_in, windows}
+use Rattle.wire.specs.Window.{held_in}
+use Rattle.wire.proofs.Window.{windows}
 use Rattle.probes.specs.Table.{Sound, longest, height}
-use Rattle.probes.specs.Laws.{sound-gives}
+use Rattle.probes.proofs.Laws.{sound-gives}
 use Rattle.probes.specs.Extremes.{shortest-least}
 use Rattle.probes.specs.Heights.{height-times}
 use Rattle.stack.specs.Room.{busy_ticks}

@@ -1,9 +1,9 @@
--- THE THREE DEMANDS OF THE CUSTOMER, as three theorems. Open this file first: each statement is in words of the definitions alone, and each line of a proof cites a law.
---     demand-one                Any input is answered: by the refusal of the first line that applies, in 01's order and at its lowest place, with the lent columns as they were; and where
+-- THE THREE DEMANDS OF THE CUSTOMER, as three statements; proofs/Demands has the theorems. Open this file first: each statement is in words of the definitions alone.
+--     DemandOne                 Any input is answered: by the refusal of the first line that applies, in 01's order and at its lowest place, with the lent columns as they were; and where
 --                               none applies, by what the call is for. That each call ends is no sentence of this page: the verdict of its crate says it.
---     demand-two                Over a sound table: passing is that no two probes ever hold the same tick, the published condition says the same, planning is first fit, and starts
+--     DemandTwo                 Over a sound table: passing is that no two probes ever hold the same tick, the published condition says the same, planning is first fit, and starts
 --                               and rectangles turn into one another without loss.
---     demand-three              In a list that passes each probe has its share of the wire, and has it alone; where there is room every probe gets a place.
+--     DemandThree               In a list that passes each probe has its share of the wire, and has it alone; where there is room every probe gets a place.
 -- Words: Ts ps ss are periods, lengths and starts; n is length Ts; a probe is its place i; what is said of a call is said of every result o that meets its promise.
 --     Validates, ToCorners, ToStarts, Plans, Checks, Holder, NextFrom, Reads, Writes     the promises of the nine calls      (table, packing, checker, timetable, book)
 --     Exports, PlanPrints, CheckPrints     those of the three exports, and of the two pages                                  (masters, pages)
@@ -22,8 +22,7 @@
 --     Room Ts ps                busy ticks of one longest period, and the longest read once for each shortest period in it, come to at most that period          (stack/Room)
 -- Edges: no call asks anything of its input; the empty table is sound.
 -- Assumes nothing.
-use Rattle.std.specs.Prelude.{◌≡◌, refl, ◌↔◌, ◌⊎◌, ◌≢◌, List, [], ◌∷◌, ◌++◌, ℕ, ◌+◌, ◌≤◌, ◌<◌, length, get_or, take, drop, replicate}
-use Rattle.std.proofs.Common.{ap}
+use Rattle.std.specs.Prelude.{◌≡◌, ◌↔◌, ◌⊎◌, ◌≢◌, List, [], ◌∷◌, ◌++◌, ℕ, ◌+◌, ◌≤◌, ◌<◌, length, get_or, take, drop, replicate}
 use Rattle.lists.specs.Pick.{In}
 use Rattle.lists.specs.Refusals.{Line, First, numbers}
 use Rattle.lists.specs.Sums.{sum_below}
@@ -33,47 +32,27 @@ use Rattle.wire.specs.Wire.{HoldsAt, Clean}
 use Rattle.wire.specs.Window.{held_in}
 use Rattle.probes.specs.Table.{lines, list_lines, Differ, Sound, longest, rows, widths}
 use Rattle.probes.specs.Verdict.{Validates, verdict}
-use Rattle.probes.specs.Laws.{verdict-meets, sound-gives, never-mark}
-use Rattle.probes.specs.Widths.{widths-none}
-use Rattle.probes.proofs.Promises.{validate-unique, validate-numbers}
 use Rattle.chain.specs.Corners.{OffGrid}
 use Rattle.order.specs.Order.{Before, order}
-use Rattle.order.specs.Listed.{order-length, order-sorted, order-once}
-use Rattle.stack.specs.FirstFit.{Outcome, outcome, plan_lines, placed, planned}
+use Rattle.stack.specs.FirstFit.{Outcome, outcome, plan_lines, placed}
 use Rattle.stack.specs.Follows.{Follows}
 use Rattle.stack.specs.Eight.{StopsAt}
 use Rattle.stack.specs.Packing.{Packs}
-use Rattle.stack.specs.PackingLaws.{packs-clean}
 use Rattle.stack.specs.Room.{busy_ticks, Room}
-use Rattle.rectangles.specs.Converting.{Corners, corners, corner_lines, done_corners, ToCorners, corners_of, Starts, as_starts, start_lines, done_starts, ToStarts, starts_of}
+use Rattle.rectangles.specs.Converting.{Corners, corners, corner_lines, done_corners, ToCorners, Starts, as_starts, start_lines, done_starts, ToStarts}
 use Rattle.rectangles.specs.Plan.{Plans}
-use Rattle.rectangles.specs.Checks.{corners-meet, starts-meet, planned-meets}
-use Rattle.rectangles.proofs.Promises.{to-corners-unique, to-corners-numbers, to-starts-unique, to-starts-numbers, plan-unique, plan-numbers, plan-below, plan-clean, plan-room}
 use Rattle.meetings.specs.Check.{Judged, Checks, checked}
-use Rattle.meetings.proofs.Promises.{check-unique, check-numbers, check-total, check-alone}
-use Rattle.hours.specs.Timetable.{ask_lines, HeldBy, Holder, holder_answer, NextStart, NextFrom, next_answer}
-use Rattle.hours.specs.HolderLaws.{holder-meets}
-use Rattle.hours.specs.NextLaws.{next-meets}
-use Rattle.hours.proofs.Promises.{holder-unique, holder-numbers, next-start-unique, next-start-numbers}
+use Rattle.hours.specs.Timetable.{ask_lines, HeldBy, Holder, NextStart, NextFrom}
 use Rattle.sheets.specs.Layout.{first_edition}
-use Rattle.volumes.specs.Reading.{blocks_in, columns, read_lines, done_read, Reads, read_of}
-use Rattle.volumes.specs.Writing.{pages, write_lines, done_write, Writes, write_of}
-use Rattle.volumes.specs.ReadLaws.{read_meets}
-use Rattle.volumes.specs.WriteLaws.{write_meets}
-use Rattle.volumes.proofs.Promises.{read-unique, read-numbers, write-unique, write-numbers}
+use Rattle.volumes.specs.Reading.{blocks_in, columns, read_lines, done_read, Reads}
+use Rattle.volumes.specs.Writing.{pages, write_lines, done_write, Writes}
 use Rattle.questions.specs.declared.Question.TheVariants.{IsClean, HolderAt, StartFrom}
-use Rattle.exports.specs.Exports.{given, export_lines, ToldOf, Exports, export_of}
-use Rattle.exports.proofs.Promises.{export-unique, export-total, check-export-numbers, holder-export-numbers, next-start-export-numbers}
+use Rattle.exports.specs.Exports.{given, export_lines, ToldOf, Exports}
 use Rattle.lines.specs.Laws.{most_check}
 use Rattle.paper.specs.Printed.{plan_page, check_page}
-use Rattle.paper.specs.Paper.{most_plan, paper, paper_lines, done_paper, Prints, print_of, PlanPrints, CheckPrints}
-use Rattle.paper.proofs.Promises.{print-unique, print-numbers, print-total}
-use Rattle.demands.specs.Meeting.{Published, clean-published, answer-clean}
-use Rattle.demands.specs.Planning.{plan-fills, plan-follows, plan-ended}
-use Rattle.demands.specs.PlanPasses.{plan-passes}
-use Rattle.demands.specs.Rectangles.{there_and_back, back-and-there}
-use Rattle.demands.specs.Busy.{busy-counted}
-use Rattle.demands.specs.BookOrder.{per_block, read-order}
+use Rattle.paper.specs.Paper.{most_plan, paper, paper_lines, done_paper, PlanPrints, CheckPrints}
+use Rattle.demands.specs.Meeting.{Published}
+use Rattle.demands.specs.BookOrder.{per_block}
 
 -- DEMAND 1, of one call with the promise P: there is a result, and no second one; it is the first line's that applies, and where none does it is Rest's; the lines are asked in
 -- the order ns; and no number is given but those of all
@@ -131,42 +110,6 @@ pub record DemandOne : Type 0 where
       → Determined (CheckPrints bs out) (λ o. o.answer.number) (paper_lines most_check (check_page bs) out) (λ k i. paper (refused k i) out) (λ o. o ≡ done_paper most_check (check_page bs) out)
       (7 ∷ []) (0 ∷ 7 ∷ [])
 
-itself : {A : Type 0} → A ↔ A
-itself = (λ p. p, λ p. p)
-
-pub demand-one : DemandOne
-unfolding Validates ToCorners ToStarts Plans Checks Holder NextFrom Reads Writes Exports Prints
-demand-one = record {
-  validate = λ Ts ps.
-      record { some = (verdict Ts ps, verdict-meets Ts ps); one = validate-unique Ts ps; first = λ o. itself; asked = refl; listed = validate-numbers Ts ps };
-  to-corners = λ Ts ps ss xs ys.
-      record { some = (corners_of Ts ps ss xs ys, corners-meet Ts ps ss xs ys); one = to-corners-unique Ts ps ss xs ys; first = λ o. itself; asked = refl; listed = to-corners-numbers Ts ps ss xs ys };
-  to-starts = λ Ts ps xs ys ss.
-      record { some = (starts_of Ts ps xs ys ss, starts-meet Ts ps xs ys ss); one = to-starts-unique Ts ps xs ys ss; first = λ o. itself; asked = refl; listed = to-starts-numbers Ts ps xs ys ss };
-  plan = λ Ts ps ss fs.
-      record { some = (planned Ts ps ss fs, planned-meets Ts ps ss fs); one = plan-unique Ts ps ss fs; first = λ o. itself; asked = refl; listed = plan-numbers Ts ps ss fs };
-  check = λ Ts ps ss.
-      record { some = (checked Ts ps ss, check-total Ts ps ss); one = check-unique Ts ps ss; first = λ o. itself; asked = refl; listed = check-numbers Ts ps ss };
-  holder = λ Ts ps ss t.
-      record { some = (holder_answer Ts ps ss t, holder-meets Ts ps ss t); one = holder-unique Ts ps ss t; first = λ o. itself; asked = refl; listed = holder-numbers Ts ps ss t };
-  next_start = λ Ts ps ss t.
-      record { some = (next_answer Ts ps ss t, next-meets Ts ps ss t); one = next-start-unique Ts ps ss t; first = λ o. itself; asked = refl; listed = next-start-numbers Ts ps ss t };
-  read = λ bs Ts ps ss.
-      record { some = (read_of first_edition bs Ts ps ss, read_meets first_edition bs Ts ps ss); one = read-unique first_edition bs Ts ps ss; first = λ o. itself; asked = ap (λ (l : List ℕ). 20 ∷ l) (read-order bs Ts ps ss); listed = read-numbers first_edition bs Ts ps ss };
-  write = λ Ts ps ss out.
-      record { some = (write_of first_edition Ts ps ss out, write_meets first_edition Ts ps ss out); one = write-unique first_edition Ts ps ss out; first = λ o. itself; asked = refl; listed = write-numbers first_edition Ts ps ss out };
-  line-check = λ bs out.
-      record { some = (export_of IsClean bs out, export-total IsClean bs out); one = export-unique IsClean bs out; first = λ o. itself; asked = refl; listed = check-export-numbers bs out };
-  line-holder = λ bs out t.
-      record { some = (export_of (HolderAt t) bs out, export-total (HolderAt t) bs out); one = export-unique (HolderAt t) bs out; first = λ o. itself; asked = refl; listed = λ o. holder-export-numbers bs out o t };
-  line-next-start = λ bs out t.
-      record { some = (export_of (StartFrom t) bs out, export-total (StartFrom t) bs out); one = export-unique (StartFrom t) bs out; first = λ o. itself; asked = refl; listed = λ o. next-start-export-numbers bs out o t };
-  plan-page = λ bs out.
-      record { some = (print_of most_plan (plan_page bs) out, print-total most_plan (plan_page bs) out); one = print-unique most_plan (plan_page bs) out; first = λ o. itself; asked = refl; listed = print-numbers most_plan (plan_page bs) out };
-  check-page = λ bs out.
-      record { some = (print_of most_check (check_page bs) out, print-total most_check (check_page bs) out); one = print-unique most_check (check_page bs) out; first = λ o. itself; asked = refl; listed = print-numbers most_check (check_page bs) out };
-}
-
 -- DEMAND 2, planning: the starts and the first H fills are what first fit over empty rows gives, and nothing else is; it ends with 0, or with 8 where first fit stops; the starts of 0
 -- lie below their periods, are clean and pass the checker
 pub record FirstFit (Ts ps ss fs : List ℕ) (o : Outcome) : Type 0 where
@@ -201,28 +144,6 @@ pub record DemandTwo (Ts ps : List ℕ) : Type 0 where
       → ToCorners Ts ps (take (length Ts) o.starts) us vs r
       → (o.answer ≡ done) × (r ≡ corners done (xs ++ drop (length Ts) us) (ys ++ drop (length Ts) vs))
 
-pub demand-two : (Ts ps : List ℕ) → Sound Ts ps → DemandTwo Ts ps
-demand-two Ts ps s = record {
-  passes = λ ss. answer-clean Ts ps ss s;
-  condition = λ ss. clean-published Ts ps ss s;
-  verdict = λ ss same. packs-clean Ts ps ps ss (sound-gives Ts ps s).harmonic same (sound-gives Ts ps s).reads (sound-gives Ts ps s).short;
-  planning = λ ss fs long-s long-f o p.
-      record {
-        after = _;
-        fills = plan-fills Ts ps ss fs s long-s long-f o p;
-        follows = plan-follows Ts ps ss fs s long-s long-f o p;
-        ended = plan-ended Ts ps ss fs s long-s long-f o p;
-        below = plan-below Ts ps ss fs o p;
-        clean = λ e. rw (widths-none ps) at (plan-clean Ts ps ss fs o p e);
-        checked = plan-passes Ts ps ss fs o p;
-      };
-  as-many = order-length Ts ps;
-  ties = order-sorted Ts ps;
-  every = order-once Ts ps;
-  rectangles = there_and_back Ts ps s;
-  starts = back-and-there Ts ps s;
-}
-
 pub record DemandThree (Ts ps : List ℕ) : Type 0 where
   -- counted from any tick that is not before the probe's first start: of the next T ticks exactly p are the probe's, and none of these is another's too
   pub share : (ss : List ℕ) → Checks Ts ps ss done → (i a : ℕ) → i < length Ts → get_or ss i 0 ≤ a
@@ -234,14 +155,3 @@ pub record DemandThree (Ts ps : List ℕ) : Type 0 where
   -- the busy ticks of Room are ticks of the wire: those that the probes hold in M ticks in a row, from all their starts on
   pub busy : Sound Ts ps → (ss : List ℕ) (a : ℕ) → ((i : ℕ) → i < length Ts → get_or ss i 0 ≤ a)
       → sum_below (λ i. held_in (get_or Ts i 0) (get_or ps i 0) (get_or ss i 0) a (longest Ts)) (length Ts) ≡ busy_ticks Ts ps
-
-pub demand-three : (Ts ps : List ℕ) → DemandThree Ts ps
-demand-three Ts ps = record {
-  share = λ ss c i a h l.
-      let (w, alone) = check-alone Ts ps ss c i a h l in
-      (w, λ j t k n from to. alone j t k n);
-  room = λ s r ss fs long-s long-f o p.
-      let e = plan-room Ts ps ss fs s long-s long-f (rw (widths-none ps) r) o p in
-      (e, λ i h. never-mark _ _ ((sound-gives Ts ps s).most i h) (plan-below Ts ps ss fs o p e i h));
-  busy = λ s ss. busy-counted Ts ps ss s;
-}

@@ -19,9 +19,9 @@ use Rattle.words.specs.Answers.{refused, done, mark}
 use Rattle.wire.specs.Wire.{Clean}
 use Rattle.probes.specs.Table.{Sound, greatest_of, shortest, longest, rows, height, widths}
 use Rattle.probes.specs.Verdict.{findings, verdict}
-use Rattle.probes.specs.Laws.{passes-sound}
+use Rattle.probes.proofs.Laws.{passes-sound}
 use Rattle.order.specs.Order.{order_below, order}
-use Rattle.order.specs.Listed.{order-length, order-probe}
+use Rattle.order.proofs.Listed.{order-length, order-probe}
 use Rattle.stack.specs.Stack.{raise, raised, bins}
 use Rattle.stack.specs.Rows.{length-map}
 use Rattle.stack.specs.FirstFit.{Outcome, outcome, marked, bin_of, start_in, fitted, plan_lines, plan_findings, refused_plan, placed, planned}

@@ -18,11 +18,11 @@ use Rattle.words.specs.declared.Answer.{Answer}
 use Rattle.words.specs.Answers.{refused, done}
 use Rattle.wire.specs.Wire.{NeverMeet, HoldsAt, Clean}
 use Rattle.wire.specs.Meeting.{lag, Apart, apart, shared_tick, apart_at, tick_at, apart_below, clean_below, clean}
-use Rattle.wire.specs.CleanTest.{clean-tells}
+use Rattle.wire.proofs.CleanTest.{clean-tells}
 use Rattle.wire.specs.Window.{held, held_in}
 use Rattle.probes.specs.Table.{Sound, BadLength, least_of, greatest_of, shortest, longest, rows, height, widths}
 use Rattle.probes.specs.Verdict.{Validates, divides, chained, bad_period, bad_length, unchained, late, findings, list_findings, verdict}
-use Rattle.probes.specs.Laws.{verdict-meets, passes-sound, sound-gives}
+use Rattle.probes.proofs.Laws.{verdict-meets, passes-sound, sound-gives}
 use Rattle.probes.specs.Composing.{list_verdict}
 use Rattle.order.specs.Order.{before, insert, order_below, order}
 use Rattle.stack.specs.Stack.{raised, fits, bins, lowest_bin}

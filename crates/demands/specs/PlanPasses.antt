@@ -8,11 +8,11 @@ use Rattle.words.specs.declared.Answer.{Answer}
 use Rattle.words.specs.Answers.{done}
 use Rattle.wire.specs.Wire.{Clean}
 use Rattle.probes.specs.Table.{widths}
-use Rattle.probes.specs.Widths.{widths-none}
+use Rattle.probes.proofs.Widths.{widths-none}
 use Rattle.stack.specs.FirstFit.{Outcome, placed}
 use Rattle.stack.specs.Planning.{fit, fit-holds}
-use Rattle.probes.specs.Laws.{sound-gives}
-use Rattle.probes.specs.Widths.{sound-positive}
+use Rattle.probes.proofs.Laws.{sound-gives}
+use Rattle.probes.proofs.Widths.{sound-positive}
 use Rattle.rectangles.specs.Plan.{Plans}
 use Rattle.rectangles.specs.Ends.{silent-plan}
 use Rattle.rectangles.proofs.Promises.{plan-below, plan-clean}

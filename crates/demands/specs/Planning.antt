@@ -12,7 +12,7 @@ use Rattle.lists.specs.Pick.{pick}
 use Rattle.lists.specs.Refusals.{Silents, whole, first_rest}
 use Rattle.words.specs.Answers.{refused, done}
 use Rattle.probes.specs.Table.{Sound, lines, Differ, rows, height, widths}
-use Rattle.probes.specs.Widths.{widths-none}
+use Rattle.probes.proofs.Widths.{widths-none}
 use Rattle.order.specs.Order.{order}
 use Rattle.stack.specs.Stack.{raised, bins}
 use Rattle.stack.specs.FirstFit.{Outcome, outcome, marked, bin_of, start_in, fitted, plan_lines, refused_plan, placed}

@@ -16,9 +16,10 @@ use Rattle.lists.specs.Refusals.{Silents, line, whole, first_rest}
 use Rattle.lists.specs.Counted.{counted, length-counted, counted-at, filled}
 use Rattle.words.specs.Answers.{done}
 use Rattle.probes.specs.Table.{Sound, lines, late_line, DifferThree}
-use Rattle.probes.specs.Laws.{sound-gives}
+use Rattle.probes.proofs.Laws.{sound-gives}
 use Rattle.chain.specs.Corners.{corner_x, corner_y, start_of, OffGrid}
-use Rattle.chain.specs.CornerLaws.{OnGrid, grid-sound, grid-complete, corner-on-grid, start-of-corner, start-below, corner-of-start}
+use Rattle.chain.specs.CornerLaws.{OnGrid}
+use Rattle.chain.proofs.CornerLaws.{grid-sound, grid-complete, corner-on-grid, start-of-corner, start-below, corner-of-start}
 use Rattle.chain.specs.Grid.{x_at, y_at, start_at, OffGridAt}
 use Rattle.rectangles.specs.Converting.{Corners, corners, corner_lines, refused_corners, done_corners, ToCorners, Starts, as_starts, DifferFour, start_lines, refused_starts, done_starts, ToStarts}
 use Rattle.rectangles.specs.Sound.{silents-append}

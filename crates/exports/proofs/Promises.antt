@@ -19,7 +19,7 @@ use Rattle.words.specs.Ticks.{TooLate}
 use Rattle.probes.specs.Table.{widths}
 use Rattle.sheets.specs.Layout.{first_edition, most_n}
 use Rattle.volumes.specs.Reading.{n_of, column, Columns, Reads}
-use Rattle.sheets.specs.Loading.{length-column}
+use Rattle.sheets.proofs.Loading.{length-column}
 use Rattle.meetings.specs.Check.{Judged, Checks}
 use Rattle.hours.specs.Timetable.{ask_lines, HeldBy, Holder, NextStart, NextFrom}
 use Rattle.telling.specs.Shown.{answer_bytes, shown}
@@ -28,7 +28,7 @@ use Rattle.questions.specs.declared.Question.TheVariants.{IsClean, HolderAt, Sta
 use Rattle.questions.specs.Carrying.{Refused, first-split}
 use Rattle.questions.specs.Replies.{book_lines, periods_in, lengths_in, starts_in, Replies, Answers}
 use Rattle.questions.specs.Opening.{book-numbers, silent-few, Opened, reads-refused, reads-opened}
-use Rattle.questions.specs.Asking.{answers-unique}
+use Rattle.questions.proofs.Asking.{answers-unique}
 use Rattle.exports.specs.Exports.{Given, given, export_lines, refused_export, ToldOf, Exports, export_of}
 use Rattle.exports.specs.Laws.{exports-short, export-meets}
 use Rattle.exports.specs.Numbers.{list-numbers}

@@ -16,7 +16,7 @@ use Rattle.words.specs.declared.Answer.{Answer}
 use Rattle.telling.specs.Shown.{answer_bytes, shown}
 use Rattle.questions.specs.declared.Question.{Question}
 use Rattle.questions.specs.Replies.{Answers, reply_of}
-use Rattle.questions.specs.Asking.{reply-meets}
+use Rattle.questions.proofs.Asking.{reply-meets}
 use Rattle.exports.specs.Exports.{given, Exports, export_of}
 
 module _ (q : Question) (bs out : List ℕ) where

@@ -9,16 +9,18 @@ use Rattle.std.proofs.Math.ListN.{get_or}
 use Rattle.lists.specs.Telling.{tells-true, tells-false}
 use Rattle.table.specs.declared.Table.{Table}
 use Rattle.probes.specs.Table.{shortest, longest, rows, height, Sound}
-use Rattle.probes.specs.Laws.{sound-gives}
+use Rattle.probes.proofs.Laws.{sound-gives}
 use Rattle.probes.specs.Heights.{shortest-positive, height-positive, rows-slots, slots-times}
 use Rattle.flipping.specs.declared.Chain.{Chain}
 use Rattle.chain.specs.Flip.{flip, unflip}
-use Rattle.chain.specs.Flip.Laws.{flip-below}
+use Rattle.chain.proofs.FlipLaws.{flip-below}
 use Rattle.chain.specs.Ratios.{ratios}
-use Rattle.chain.specs.RatioLaws.{ratios-level, ratios-positive}
-use Rattle.chain.specs.Slotted.{Slotted, chain-slotted, chain-flip, chain-unflip}
+use Rattle.chain.proofs.RatioLaws.{ratios-level, ratios-positive}
+use Rattle.chain.specs.Slotted.{Slotted}
+use Rattle.chain.proofs.Slotted.{chain-slotted, chain-flip, chain-unflip}
 use Rattle.chain.specs.Corners.{corner_y, start_of}
-use Rattle.chain.specs.CornerLaws.{OnGrid, start-below}
+use Rattle.chain.specs.CornerLaws.{OnGrid}
+use Rattle.chain.proofs.CornerLaws.{start-below}
 use Rattle.grid.specs.Prepared.{table_of, chain_of, Prepared}
 use Rattle.chain.specs.Grid.{OffGridAt, off_grid, off-grid-tells}
 

@@ -19,12 +19,12 @@ use Rattle.words.specs.Ticks.{last_tick}
 use Rattle.wire.specs.Wire.{HoldsAt}
 use Rattle.probes.specs.Table.{widths, shortest, longest, rows, greatest_of}
 use Rattle.probes.specs.Verdict.{findings, verdict}
-use Rattle.probes.specs.Laws.{sound-gives, passes-sound}
+use Rattle.probes.proofs.Laws.{sound-gives, passes-sound}
 use Rattle.hours.specs.Timetable.{ask_lines, HeldBy, Holder, IsNextStart, NextStart, NextFrom, candidate}
-use Rattle.probes.specs.Widths.{widths-none}
+use Rattle.probes.proofs.Widths.{widths-none}
 use Rattle.hours.specs.Asking.{Asked, asked-silent}
-use Rattle.hours.specs.HolderLaws.{held-unique}
-use Rattle.hours.specs.NextLaws.{next-unique, candidate-from, candidate-starts}
+use Rattle.hours.proofs.HolderLaws.{held-unique}
+use Rattle.hours.proofs.NextLaws.{next-unique, candidate-from, candidate-starts}
 
 module _ (Ts ps ss : List ℕ) (t : ℕ) where
   -- two answers that meet the promise are one

@@ -19,9 +19,10 @@ use Rattle.words.specs.Answers.{refused, done}
 use Rattle.words.specs.Ticks.{last_tick, TooLate, too_late}
 use Rattle.probes.specs.Table.{most_probes, Sound, list_lines}
 use Rattle.probes.specs.Verdict.{list_findings}
-use Rattle.probes.specs.Laws.{sound-gives}
-use Rattle.probes.specs.Composing.{Numbered, numbered-append, list_verdict, list-find, list-numbered, compose-done, compose-refused, refusal_is}
-use Rattle.probes.specs.Passed.{silent-if, silents-left, silents-right, silents-append, silent-passes, passes-silent, below_of, at_most}
+use Rattle.probes.proofs.Laws.{sound-gives}
+use Rattle.probes.specs.Composing.{Numbered, list_verdict}
+use Rattle.probes.proofs.Composing.{numbered-append, list-find, list-numbered, compose-done, compose-refused, refusal_is}
+use Rattle.probes.proofs.Passed.{silent-if, silents-left, silents-right, silents-append, silent-passes, passes-silent, below_of, at_most}
 use Rattle.hours.specs.Timetable.{ask_lines, ask_findings}
 
 unfoldable pub ask_verdict : List ℕ → List ℕ → List ℕ → ℕ → Answer

@@ -1,4 +1,2 @@
 pub mod Timetable
 pub mod Asking
-pub mod HolderLaws
-pub mod NextLaws

@@ -13,13 +13,14 @@ use Rattle.lists.specs.Refusals.{First, Silents, first-unique, first-numbers, fi
 use Rattle.words.specs.declared.Answer.{Answer}
 use Rattle.words.specs.Answers.{refused, done, mark}
 use Rattle.wire.specs.Wire.{Clean, HoldsAt}
-use Rattle.wire.specs.Window.{held_in, window, clean-alone}
+use Rattle.wire.specs.Window.{held_in}
+use Rattle.wire.proofs.Window.{window, clean-alone}
 use Rattle.probes.specs.Table.{widths, Sound, Late, late_line, lines, DifferThree, list_lines}
-use Rattle.probes.specs.Laws.{sound-gives, mark-late}
+use Rattle.probes.proofs.Laws.{sound-gives, mark-late}
 use Rattle.meetings.specs.Check.{Judged, Checks, checked}
-use Rattle.probes.specs.Widths.{widths-none}
+use Rattle.probes.proofs.Widths.{widths-none}
 use Rattle.meetings.specs.Passing.{Passes, silent-passes, passes-silent, passes-gives, sound-silent}
-use Rattle.meetings.specs.Laws.{judged-unique, checked-meets}
+use Rattle.meetings.proofs.Laws.{judged-unique, checked-meets}
 
 module _ (Ts ps ss : List ℕ) where
   -- two answers that meet the promise are one

@@ -1,4 +1,3 @@
 pub mod Check
 pub mod Passing
 pub mod Steps
-pub mod Laws

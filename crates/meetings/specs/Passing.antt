@@ -3,5 +3,6 @@
 --     InRange Ts ps ss i        what that says of probe i (pairs, specs/Range)
 -- Edges: the empty list passes.
 -- Assumes nothing.
-pub use Rattle.probes.specs.Passed.{Passes, silent-passes, passes-silent, sound-silent, zero-passes}
+pub use Rattle.probes.specs.Passed.{Passes}
+pub use Rattle.probes.proofs.Passed.{silent-passes, passes-silent, sound-silent, zero-passes}
 pub use Rattle.pairs.specs.Range.{InRange, passes-gives}

@@ -4,9 +4,10 @@
 use Rattle.std.specs.Prelude.{List, ℕ, ◌≤◌, ◌<◌, length, get_or}
 use Rattle.std.proofs.Common.{arith}
 use Rattle.probes.specs.Table.{most_period}
-use Rattle.probes.specs.Laws.{sound-gives}
+use Rattle.probes.proofs.Laws.{sound-gives}
 use Rattle.probes.specs.Extremes.{shortest-least}
-use Rattle.probes.specs.Passed.{Passes, below_of}
+use Rattle.probes.specs.Passed.{Passes}
+use Rattle.probes.proofs.Passed.{below_of}
 
 module _ (Ts ps ss : List ℕ) where
   pub record InRange (i : ℕ) : Type 0 where

@@ -6,7 +6,7 @@ use Rattle.std.specs.Prelude.{◌≡◌, false, List, ℕ, ◌+◌, ◌-◌, ◌
 use Rattle.std.proofs.Common.{sym, mod-eq_of_lt}
 use borrow.Author.Tests.{le-leb, lt-leb, lt-ltb, le-ltb}
 use Rattle.wire.specs.Meeting.{lag, apart, shared_tick, apart_at, tick_at}
-use Rattle.wire.specs.CleanTest.{at-by-first, at-by-second}
+use Rattle.wire.proofs.CleanTest.{at-by-first, at-by-second}
 use Rattle.pairs.specs.declared.Probe.{Probe}
 use Rattle.pairs.specs.Probes.{probe_at, apart_of, tick_of}
 

@@ -25,12 +25,12 @@ use Rattle.probes.specs.Table.{most_probes, most_rows}
 use Rattle.sheets.specs.Layout.{first_edition, block_bytes, most_n}
 use Rattle.volumes.specs.Reading.{bad_size, Columns, Reads}
 use Rattle.volumes.specs.ReadLaws.{read-size}
-use Rattle.sheets.specs.BlocksLaws.{bad-size-tells}
+use Rattle.sheets.proofs.BlocksLaws.{bad-size-tells}
 use Rattle.stack.specs.FirstFit.{Outcome}
 use Rattle.rectangles.specs.Plan.{Plans}
 use Rattle.questions.specs.declared.Question.TheVariants.{IsClean}
 use Rattle.questions.specs.Replies.{periods_in, lengths_in, Answers, read_in, reply_of}
-use Rattle.questions.specs.Asking.{opened-periods, opened-lengths}
+use Rattle.questions.proofs.Asking.{opened-periods, opened-lengths}
 use Rattle.lines.specs.Lines.{answer_line, check_line}
 use Rattle.paper.specs.Printed.{plan_text, plan_page, check_page}
 use Rattle.paper.specs.Paper.{most_input, Paper, paper_lines, refused_paper, done_paper, Prints, print_of}

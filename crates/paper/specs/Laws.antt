@@ -25,7 +25,7 @@ use Rattle.lists.specs.Refusals.{First}
 use Rattle.words.specs.declared.Answer.{Answer}
 use Rattle.words.specs.Answers.{refused}
 use Rattle.probes.specs.Table.{most_probes, most_rows, rows}
-use Rattle.probes.specs.Laws.{sound-gives}
+use Rattle.probes.proofs.Laws.{sound-gives}
 use Rattle.stack.specs.FirstFit.{Outcome}
 use Rattle.rectangles.specs.Plan.{Plans}
 use Rattle.rectangles.specs.Checks.{planned-meets}
@@ -37,7 +37,7 @@ use Rattle.volumes.specs.ReadLaws.{read_meets}
 use Rattle.volumes.proofs.Promises.{read-unique}
 use Rattle.questions.specs.declared.Question.TheVariants.{IsClean}
 use Rattle.questions.specs.Replies.{Answers, read_in, reply_of}
-use Rattle.questions.specs.Asking.{opened-periods, opened-lengths, answers-unique, reply-meets}
+use Rattle.questions.proofs.Asking.{opened-periods, opened-lengths, answers-unique, reply-meets}
 use Rattle.text.specs.Putting.{Put, put-page}
 use Rattle.lines.specs.Lines.{answer_line, check_line, head_line, probe_lines}
 use Rattle.paper.specs.Printed.{ran, plan_text, planned_in, plan_page, check_page}

@@ -1,1 +1,6 @@
 pub mod Promises
+pub mod Seen
+pub mod Laws
+pub mod Composing
+pub mod Passed
+pub mod Widths

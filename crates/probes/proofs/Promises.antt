@@ -11,7 +11,7 @@ use Rattle.words.specs.declared.Answer.{Answer}
 use Rattle.words.specs.Answers.{refused, done}
 use Rattle.probes.specs.Table.{most_probes, lines, Differ, Sound}
 use Rattle.probes.specs.Verdict.{Validates, verdict}
-use Rattle.probes.specs.Laws.{validates-sound, sound-validates, verdict-meets}
+use Rattle.probes.proofs.Laws.{validates-sound, sound-validates, verdict-meets}
 use Rattle.probes.specs.Ways.{way-many}
 
 module _ (Ts ps : List ℕ) where

@@ -9,5 +9,4 @@ pub mod Composing
 pub mod Passed
 pub mod Extremes
 pub mod Heights
-pub mod Widths
 pub mod Ways

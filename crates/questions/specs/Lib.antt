@@ -1,4 +1,3 @@
 pub mod Carrying
 pub mod Replies
 pub mod Opening
-pub mod Asking

@@ -21,8 +21,9 @@ use Rattle.words.specs.declared.Answer.{Answer}
 use Rattle.words.specs.Answers.{refused}
 use Rattle.sheets.specs.Layout.{first_edition, most_n}
 use Rattle.volumes.specs.Reading.{blocks_in, n_of, block_lines, column, Columns, ShortColumn, refused_read, done_read, Reads}
-use Rattle.sheets.specs.BlocksLaws.{RightSize, right-size, block-numbers}
-use Rattle.sheets.specs.Loading.{length-column}
+use Rattle.sheets.specs.BlocksLaws.{RightSize}
+use Rattle.sheets.proofs.BlocksLaws.{right-size, block-numbers}
+use Rattle.sheets.proofs.Loading.{length-column}
 use Rattle.questions.specs.Carrying.{Refused, first-split, first-carry}
 use Rattle.questions.specs.Replies.{book_lines, periods_in, lengths_in, starts_in}
 

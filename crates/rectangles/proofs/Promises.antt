@@ -23,10 +23,11 @@ use Rattle.words.specs.declared.Answer.{Answer}
 use Rattle.words.specs.Answers.{refused, done, mark}
 use Rattle.wire.specs.Wire.{Clean, CleanAmong}
 use Rattle.probes.specs.Table.{Sound, lines, Differ, rows, height, widths}
-use Rattle.probes.specs.Laws.{Soundness, sound-gives}
-use Rattle.probes.specs.Widths.{widths-none, sound-positive}
+use Rattle.probes.specs.Laws.{Soundness}
+use Rattle.probes.proofs.Laws.{sound-gives}
+use Rattle.probes.proofs.Widths.{widths-none, sound-positive}
 use Rattle.chain.specs.Corners.{corner_x, corner_y, start_of}
-use Rattle.chain.specs.CornerLaws.{start-of-corner, corner-of-start}
+use Rattle.chain.proofs.CornerLaws.{start-of-corner, corner-of-start}
 use Rattle.order.specs.Order.{order}
 use Rattle.stack.specs.FirstFit.{Outcome, outcome, marked, bin_of, start_in, fitted, plan_lines, refused_plan, placed}
 use Rattle.stack.specs.Stack.{raised, bins}

@@ -14,10 +14,12 @@ use Rattle.lists.specs.Counted.{filled}
 use Rattle.words.specs.declared.Answer.{Answer}
 use Rattle.words.specs.Answers.{refused, done}
 use Rattle.probes.specs.Table.{Differ, DifferThree, lines, late_line, Sound, rows, widths}
-use Rattle.probes.specs.Widths.{widths-none}
-use Rattle.probes.specs.Passed.{silent-if, silents-left, silents-right, sound-with, below_of, at_most, equal}
-use Rattle.probes.specs.Composing.{Numbered, compose-done, compose-refused, refusal_is}
-use Rattle.chain.specs.CornerLaws.{OnGrid, grid-complete}
+use Rattle.probes.proofs.Widths.{widths-none}
+use Rattle.probes.proofs.Passed.{silent-if, silents-left, silents-right, sound-with, below_of, at_most, equal}
+use Rattle.probes.specs.Composing.{Numbered}
+use Rattle.probes.proofs.Composing.{compose-done, compose-refused, refusal_is}
+use Rattle.chain.specs.CornerLaws.{OnGrid}
+use Rattle.chain.proofs.CornerLaws.{grid-complete}
 use Rattle.chain.specs.Grid.{x_at, y_at, start_at, OffGridAt}
 use Rattle.order.specs.Order.{order}
 use Rattle.stack.specs.FirstFit.{Outcome, outcome, fitted, plan_lines, plan_findings, refused_plan, placed, planned}

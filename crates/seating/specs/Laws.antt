@@ -12,7 +12,7 @@ use Rattle.words.specs.declared.Answer.{Answer}
 use Rattle.words.specs.Answers.{refused, done, mark}
 use Rattle.probes.specs.Table.{most_period, rows, height}
 use Rattle.order.specs.Order.{order}
-use Rattle.order.specs.Listed.{order-length}
+use Rattle.order.proofs.Listed.{order-length}
 use Rattle.stack.specs.Stack.{raised, bins}
 use Rattle.stack.specs.FirstFit.{outcome, marked, bin_of, start_in, fitted}
 use Rattle.stack.specs.Fitting.{length_marked}

@@ -3,15 +3,12 @@ pub mod Layout
 pub mod Cases
 pub mod Runs
 pub mod ByteLaws
-pub mod LayoutLaws
 pub mod Pieces
 pub mod Block
-pub mod BlockLaws
 pub mod Records
 pub mod RecordLaws
 pub mod Filling
 pub mod FillingCases
-pub mod FillingLaws
 pub mod Blocks
+pub mod BlockLaws
 pub mod BlocksLaws
-pub mod Loading

@@ -1,22 +1,11 @@
 -- ANSWERS THAT THE CHECKER'S PROMISE SHUTS OUT. Document 01, "What the inspector asks of each promise" and "Shortcuts that look right".
 --     list Ts ps ss right wrong   a list, the answer that the promise has for it, and what a wrong program says
---     check-shuts-out             every claim of the table is settled: the right answer meets the promise, and the wrong one does not
---     check-not-one               "a checker with one verdict for all lists": no answer serves them all
 -- Assumes nothing.
-use Rattle.std.specs.Prelude.{refl, List, [], ◌∷◌, ℕ}
-use Rattle.std.proofs.Common.{sym, ap, ◌∙◌, arith}
-use Rattle.lists.specs.Pick.{any_below}
-use Rattle.lists.specs.Lowest.{lowest, lowest_from}
-use Rattle.lists.specs.Answering.{first_of}
+use Rattle.std.specs.Prelude.{List, [], ◌∷◌, ℕ}
 use Rattle.words.specs.declared.Answer.{Answer}
 use Rattle.words.specs.Answers.{refused, done, pair, mark}
-use Rattle.wire.specs.Meeting.{lag, apart, shared_tick, apart_at, tick_at}
-use Rattle.probes.specs.Table.{least_of, greatest_of, shortest, longest, rows, widths}
-use Rattle.probes.specs.Verdict.{divides, chained, bad_period, bad_length, unchained, late, findings, list_findings}
-use Rattle.meetings.specs.Check.{partner, opener, meeting_of, Checks, checked}
-use Rattle.meetings.specs.Laws.{checked-meets}
-use Rattle.meetings.proofs.Promises.{check-unique}
-use Rattle.shut_out.specs.Claims.{Claim, claim, Each, Settled, same_answer, same-answer-tells, all_settled}
+use Rattle.meetings.specs.Check.{Checks}
+use Rattle.shut_out.specs.Claims.{Claim, claim}
 
 -- periods, lengths and starts
 abbrev pub Lent : Type 0
@@ -63,15 +52,3 @@ claims =
     -- a sixth probe that meets the third
     ∷ list (10 ∷ 20 ∷ 20 ∷ 60 ∷ 60 ∷ 60 ∷ []) (3 ∷ 4 ∷ 5 ∷ 2 ∷ 3 ∷ 3 ∷ []) (0 ∷ 13 ∷ 3 ∷ 8 ∷ 17 ∷ 47 ∷ []) (pair 10 2 5 47) done
     ∷ []
-
-pub check-shuts-out : Each (Settled Meets) claims
-unfolding checked first_of list_findings findings bad_period bad_length unchained chained divides late lowest lowest_from any_below shortest least_of longest greatest_of rows
-    meeting_of opener partner apart_at tick_at apart shared_tick lag widths
-check-shuts-out =
-    all_settled same_answer same-answer-tells (λ (x : Lent). checked x.0 x.1 x.2) Meets (λ x. checked-meets _ _ _) (λ x. check-unique _ _ _) claims refl
-
-pub check-not-one : (a : Answer) → ((Ts ps ss : List ℕ) → Checks Ts ps ss a) → ⊥
-check-not-one a all =
-    let meets = check-unique _ _ _ a (pair 10 0 1 5) (all _ _ _) check-shuts-out.0.0 in
-    let clean = check-unique _ _ _ a done (all _ _ _) check-shuts-out.1.0.0 in
-    omega (arith, ap (λ (r : Answer). r.number) (sym meets ∙ clean))

@@ -15,10 +15,10 @@ use Rattle.words.specs.declared.Answer.{Answer}
 use Rattle.words.specs.Answers.{refused, done, pair, mark}
 use Rattle.probes.specs.Table.{least_of, greatest_of, shortest, longest, rows, height}
 use Rattle.probes.specs.Verdict.{divides, chained, bad_period, bad_length, unchained, late, findings, verdict}
-use Rattle.probes.specs.Laws.{passes-sound, sound-gives}
-use Rattle.chain.specs.Flip.Laws.{flip-prefix}
+use Rattle.probes.proofs.Laws.{passes-sound, sound-gives}
+use Rattle.chain.proofs.FlipLaws.{flip-prefix}
 use Rattle.chain.specs.Ratios.{ratios}
-use Rattle.chain.specs.RatioLaws.{ratios-level, ratios-positive}
+use Rattle.chain.proofs.RatioLaws.{ratios-level, ratios-positive}
 use Rattle.chain.specs.Corners.{corner_x, corner_y}
 use Rattle.rectangles.specs.Converting.{Corners, corners, corner_findings, done_corners, ToCorners, corners_of}
 use Rattle.rectangles.specs.Checks.{corners-meet}

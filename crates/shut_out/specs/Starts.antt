@@ -16,7 +16,7 @@ use Rattle.words.specs.Answers.{refused, done}
 use Rattle.probes.specs.Table.{least_of, greatest_of, shortest, longest, rows, height}
 use Rattle.probes.specs.Verdict.{divides, chained, bad_period, bad_length, unchained, findings}
 use Rattle.chain.specs.Corners.{corner_y, start_of}
-use Rattle.chain.specs.CornerLaws.{grid-complete, corner-of-start}
+use Rattle.chain.proofs.CornerLaws.{grid-complete, corner-of-start}
 use Rattle.chain.specs.Grid.{off_grid}
 use Rattle.chain.specs.Grid.{off-grid-tells}
 use Rattle.rectangles.specs.Converting.{Starts, as_starts, start_findings, done_starts, ToStarts, starts_of}

@@ -13,8 +13,8 @@ use Rattle.words.specs.Ticks.{last_tick}
 use Rattle.probes.specs.Table.{least_of, greatest_of, shortest, longest, rows, widths}
 use Rattle.probes.specs.Verdict.{divides, chained, bad_period, bad_length, unchained, late, findings, list_findings}
 use Rattle.hours.specs.Timetable.{ask_findings, phase, holds_test, holder_of, Holder, holder_answer, candidate, next_of, NextFrom, next_answer}
-use Rattle.hours.specs.HolderLaws.{holder-meets}
-use Rattle.hours.specs.NextLaws.{next-meets}
+use Rattle.hours.proofs.HolderLaws.{holder-meets}
+use Rattle.hours.proofs.NextLaws.{next-meets}
 use Rattle.hours.proofs.Promises.{holder-unique, next-start-unique}
 use Rattle.shut_out.specs.Claims.{Claim, claim, Each, Settled, same_answer, same-answer-tells, all_settled}
 

@@ -12,7 +12,7 @@ use Rattle.words.specs.declared.Answer.{Answer}
 use Rattle.words.specs.Answers.{refused, done}
 use Rattle.probes.specs.Table.{least_of, greatest_of, shortest, longest, rows}
 use Rattle.probes.specs.Verdict.{divides, chained, bad_period, bad_length, unchained, findings, verdict, Validates}
-use Rattle.probes.specs.Laws.{verdict-meets}
+use Rattle.probes.proofs.Laws.{verdict-meets}
 use Rattle.probes.proofs.Promises.{validate-unique}
 use Rattle.shut_out.specs.Claims.{Claim, claim, Each, Settled, same_answer, same-answer-tells, all_settled}
 

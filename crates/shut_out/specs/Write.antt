@@ -11,7 +11,7 @@ use Rattle.sheets.specs.Layout.{first_edition, blocks_of, records_of}
 use Rattle.sheets.specs.Runs.{run_from}
 use Rattle.sheets.specs.Filling.{record_of, record_at, head_of, body_of, sums_of, block_of}
 use Rattle.volumes.specs.Writing.{book_of, Pages, pages, write_findings, done_write, Writes, write_of}
-use Rattle.volumes.specs.WriteLaws.{write_meets}
+use Rattle.volumes.proofs.WriteLaws.{write_meets}
 use Rattle.volumes.proofs.Promises.{write-unique}
 use Rattle.shut_out.specs.Claims.{two-tell, Claim, claim, Each, Settled, same_answer, same-answer-tells, same_list, same-list-tells, all_settled}
 use Rattle.shut_out.specs.Read.{summed, two}

@@ -21,7 +21,7 @@ use Rattle.lists.specs.Harmonic.{Harmonic, Positive}
 use Rattle.words.specs.Answers.{refused, done, mark}
 use Rattle.probes.specs.Table.{shortest, height}
 use Rattle.order.specs.Order.{Before, order}
-use Rattle.order.specs.Listed.{order-length, order-probe, order-sorted, order-apart}
+use Rattle.order.proofs.Listed.{order-length, order-probe, order-sorted, order-apart}
 use Rattle.stack.specs.Stack.{raised, Fits, fits, bins, lowest_bin}
 use Rattle.stack.specs.FirstFit.{Outcome, outcome, marked, bin_of, start_in, fitted}
 use Rattle.stack.specs.Rectangles.{heights-times}

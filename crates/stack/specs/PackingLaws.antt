@@ -12,14 +12,14 @@ use Rattle.std.proofs.Math.Decide.{dec_le, ℕ_discrete}
 use Rattle.lists.specs.Harmonic.{Harmonic, Positive}
 use Rattle.wire.specs.Wire.{NeverMeet, Clean}
 use Rattle.wire.specs.Meeting.{lag, Apart, moved}
-use Rattle.wire.specs.Lag.{lag-unique, lag-below}
-use Rattle.wire.specs.Apartness.{apart-sound, apart-complete, never-meet-swap}
-use Rattle.wire.specs.Moving.{moved_at, moved-lt, clean-moved}
+use Rattle.wire.proofs.Lag.{lag-unique, lag-below}
+use Rattle.wire.proofs.Apartness.{apart-sound, apart-complete, never-meet-swap}
+use Rattle.wire.proofs.Moving.{moved_at, moved-lt, clean-moved}
 use Rattle.probes.specs.Table.{shortest}
 use Rattle.probes.specs.Heights.{shortest-positive}
 use Rattle.chain.specs.Corners.{corner_x}
 use Rattle.order.specs.Order.{first}
-use Rattle.order.specs.Following.{first-is, first-shortest}
+use Rattle.order.proofs.Following.{first-is, first-shortest}
 use Rattle.stack.specs.Packing.{CoversAt, Inside, NoOverlap, origin, Packs}
 use Rattle.stack.specs.Rectangles.{cells-apart, apart-cells}
 

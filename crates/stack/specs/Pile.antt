@@ -19,7 +19,8 @@ use Rattle.wire.specs.Wire.{NeverMeet}
 use Rattle.probes.specs.Table.{shortest, rows, height}
 use Rattle.probes.specs.Heights.{height-positive, rows-slots}
 use Rattle.chain.specs.Corners.{corner_x, corner_y, start_of}
-use Rattle.chain.specs.CornerLaws.{OnGrid, start-below, corner-of-start}
+use Rattle.chain.specs.CornerLaws.{OnGrid}
+use Rattle.chain.proofs.CornerLaws.{start-below, corner-of-start}
 use Rattle.stack.specs.Stack.{raised}
 use Rattle.stack.specs.Packing.{Covers}
 use Rattle.stack.specs.Rows.{sum, length-raised, raised_below, raised-in, raised-above, raised-more, sum-raised, sum-none, LevelRows, level-raised}

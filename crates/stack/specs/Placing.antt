@@ -18,7 +18,8 @@ use Rattle.lists.specs.Harmonic.{Harmonic, Positive}
 use Rattle.probes.specs.Table.{shortest, rows, height}
 use Rattle.probes.specs.Heights.{height-positive}
 use Rattle.chain.specs.Corners.{corner_x, corner_y, start_of}
-use Rattle.chain.specs.CornerLaws.{OnGrid, start-below, corner-of-start}
+use Rattle.chain.specs.CornerLaws.{OnGrid}
+use Rattle.chain.proofs.CornerLaws.{start-below, corner-of-start}
 use Rattle.stack.specs.Stack.{raised, Fits, bins}
 use Rattle.stack.specs.FirstFit.{start_in}
 use Rattle.stack.specs.Packing.{CoversAt}

@@ -23,7 +23,7 @@ use Rattle.probes.specs.Table.{shortest, longest, rows, height}
 use Rattle.probes.specs.Heights.{height-positive, height-times, rows-slots, slots-times, shortest-positive}
 use Rattle.chain.specs.Corners.{corner_x}
 use Rattle.order.specs.Order.{order}
-use Rattle.order.specs.Listed.{order-length, order-once, order-sum}
+use Rattle.order.proofs.Listed.{order-length, order-once, order-sum}
 use Rattle.stack.specs.Stack.{bins}
 use Rattle.stack.specs.FirstFit.{Outcome, fitted}
 use Rattle.stack.specs.Room.{busy_of, busy_ticks, longest_read, Room}

@@ -15,15 +15,15 @@ use Rattle.std.proofs.Math.Decide.{dec_le, ℕ_discrete}
 use native.Mathlib.Omega.{arith}
 use Rattle.lists.specs.Harmonic.{Harmonic}
 use Rattle.wire.specs.Meeting.{lag, Apart}
-use Rattle.wire.specs.Lag.{lag-unique}
+use Rattle.wire.proofs.Lag.{lag-unique}
 use Rattle.probes.specs.Table.{shortest, height}
 use Rattle.probes.specs.Heights.{shortest-positive, slots-times, height-positive, rows-slots}
 use Rattle.chain.specs.Digits.{AllPositive}
 use Rattle.chain.specs.Flip.{flip}
 use Rattle.chain.specs.Products.{Level}
-use Rattle.chain.specs.Flip.Laws.{flip-injective, flip-prefix}
+use Rattle.chain.proofs.FlipLaws.{flip-injective, flip-prefix}
 use Rattle.chain.specs.Ratios.{ratios}
-use Rattle.chain.specs.RatioLaws.{ratios-level, ratios-positive}
+use Rattle.chain.proofs.RatioLaws.{ratios-level, ratios-positive}
 use Rattle.chain.specs.Corners.{corner_x, corner_y}
 use Rattle.stack.specs.Packing.{Covers}
 use Rattle.stack.specs.Slots.{far_apart, near_apart, near-meet, same-slot}

@@ -9,7 +9,7 @@ use Rattle.std.proofs.Math.Nat.{add-mul-div_left, add-mul-mod_self_left, div-eq_
 use Rattle.std.proofs.Math.Decide.{dec_le}
 use Rattle.std.proofs.Math.Arith.{mod-mul}
 use Rattle.wire.specs.Meeting.{lag, Apart}
-use Rattle.wire.specs.Lag.{lag-unique, lag-back, lag-lt}
+use Rattle.wire.proofs.Lag.{lag-unique, lag-back, lag-lt}
 
 -- a number by its place in a slot and its slot, modulo m slots
 pub slot-mod : (w m x a : ℕ) → x < w → 0 < m → (x + w * a) % (w * m) ≡ x + w * (a % m)

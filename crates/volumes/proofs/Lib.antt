@@ -1,1 +1,4 @@
 pub mod Promises
+pub mod WriteLaws
+pub mod WriteThenRead
+pub mod RoundTrips

@@ -12,10 +12,10 @@ use Rattle.sheets.specs.Bytes.{AreBytes, AreWords}
 use Rattle.sheets.specs.Layout.{Layout, first_edition, most_n}
 use Rattle.volumes.specs.Reading.{Columns, columns, blocks_in, ShortColumn, read_lines, refused_read, done_read, Reads, read_of}
 use Rattle.volumes.specs.Writing.{Pages, pages, book_of, write_lines, refused_write, done_write, Writes, write_of}
-use Rattle.sheets.specs.BlocksLaws.{block-numbers}
+use Rattle.sheets.proofs.BlocksLaws.{block-numbers}
 use Rattle.volumes.specs.ReadLaws.{read_meets}
-use Rattle.volumes.specs.WriteLaws.{write_meets}
-use Rattle.volumes.specs.RoundTrips.{read-then-write, write-then-read, form-only}
+use Rattle.volumes.proofs.WriteLaws.{write_meets}
+use Rattle.volumes.proofs.RoundTrips.{read-then-write, write-then-read, form-only}
 
 module _ (L : Layout) (bs Ts ps ss : List ℕ) where
   -- two results that meet the promise are one: the answer and all three columns

@@ -3,7 +3,4 @@ pub mod Reading
 pub mod Writing
 pub mod Cases
 pub mod ReadLaws
-pub mod WriteLaws
 pub mod ReadThenWrite
-pub mod WriteThenRead
-pub mod RoundTrips

@@ -13,7 +13,8 @@ use Rattle.lists.specs.Answering.{AllFind, tested, first_of, first-of, first-of-
 use Rattle.words.specs.declared.Answer.{Answer}
 use Rattle.words.specs.Answers.{refused}
 use Rattle.sheets.specs.Layout.{Layout}
-use Rattle.sheets.specs.BlocksLaws.{judged_from, from-passes, from-stops, bad-size-tells, blocks-find}
+use Rattle.sheets.specs.BlocksLaws.{judged_from}
+use Rattle.sheets.proofs.BlocksLaws.{from-passes, from-stops, bad-size-tells, blocks-find}
 use Rattle.volumes.specs.Reading.{BadSize, bad_size, blocks_in, n_of, block_lines, block_findings, judged_blocks, column, Columns, columns, ShortColumn, read_lines, read_findings, refused_read, done_read, Reads, read_of}
 
 -- the ways out

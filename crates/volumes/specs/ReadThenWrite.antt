@@ -14,15 +14,16 @@ use Rattle.sheets.specs.Bytes.{AreBytes, bytes, word, byte_sum, place_sum, AllZe
 use Rattle.sheets.specs.Layout.{first_edition, block_bytes, blocks_of, records_of}
 use Rattle.sheets.specs.Runs.{run_from, run_of}
 use Rattle.sheets.specs.ByteLaws.{all-zero-tells}
-use Rattle.sheets.specs.LayoutLaws.{records-most, records-end}
+use Rattle.sheets.proofs.LayoutLaws.{records-most, records-end}
 use Rattle.sheets.specs.Pieces.{join, part-of-take, bytes-part, bytes_word, word-part, zero-zeros}
 use Rattle.sheets.specs.Block.{unused}
-use Rattle.sheets.specs.BlockLaws.{same_number}
+use Rattle.sheets.proofs.BlockLaws.{same_number}
 use Rattle.sheets.specs.Filling.{record_of, record_at, head_of, body_of, sums_of, block_of}
-use Rattle.sheets.specs.FillingLaws.{length-record, length-block}
+use Rattle.sheets.proofs.FillingLaws.{length-record, length-block}
 use Rattle.volumes.specs.Reading.{block_at, blocks_in, n_of, field, column}
-use Rattle.sheets.specs.BlocksLaws.{verdict_at, RightBlock, right-block}
-use Rattle.sheets.specs.Loading.{block-long, length-column, column-at}
+use Rattle.sheets.specs.BlocksLaws.{verdict_at, RightBlock}
+use Rattle.sheets.proofs.BlocksLaws.{right-block}
+use Rattle.sheets.proofs.Loading.{block-long, length-column, column-at}
 use Rattle.volumes.specs.Writing.{book_of}
 
 -- bytes that are not other than zero are zero

@@ -4,8 +4,8 @@ use Prim.Native.Nat.{ℕ, ◌+◌, ◌-◌, ◌*◌}
 use native.Mathlib.Omega.{arith}
 use lib.ListN.{length}
 use Rattle.sheets.specs.Layout.{first_edition, head_bytes}
-use Rattle.sheets.specs.LayoutLaws.{records-most, records-end}
-use Rattle.sheets.specs.FillingLaws.{filled}
+use Rattle.sheets.proofs.LayoutLaws.{records-most, records-end}
+use Rattle.sheets.proofs.FillingLaws.{filled}
 use borrow.Author.Rules.{rules}
 use Rattle.blocks.proofs.put_block.Goals as goal
 

@@ -9,7 +9,7 @@ use borrow.Rule.Slice.PartMut.{mid_len}
 use Rattle.sheets.specs.Layout.{first_edition}
 use Rattle.sheets.specs.Runs.{run_from, run_store}
 use Rattle.sheets.specs.Filling.{block_of}
-use Rattle.sheets.specs.FillingLaws.{length-block, part-stored}
+use Rattle.sheets.proofs.FillingLaws.{length-block, part-stored}
 use borrow.Author.Rules.{rules}
 use Rattle.blocks.proofs.put_blocks.Goals as goal
 

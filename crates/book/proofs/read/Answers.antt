@@ -6,7 +6,7 @@ use Rattle.words.specs.declared.Answer.{Answer}
 use Rattle.sheets.specs.Layout.{first_edition}
 use Rattle.volumes.specs.Reading.{columns}
 use Rattle.volumes.specs.ReadLaws.{reads_as, read-size, read-block, read_short, read_done, done-is}
-use Rattle.sheets.specs.Loading.{passed}
+use Rattle.sheets.proofs.Loading.{passed}
 use borrow.Author.Rules.{rules}
 use Rattle.book.proofs.read.Goals as goal
 

@@ -1,22 +1,14 @@
 -- THE FLIP AS DOCUMENT 01 WRITES IT. "Slots and sub-bins": "Slot v is written in digits, least first: v = d_1 + d_2 b_1 + d_3 b_1 b_2 + .., with each digit d_i below b_i.
--- Its flip is j = d_k + d_(k-1) b_k + .. + d_1 (b_2 .. b_k)." Only bench_sheet and demands use this page; all other crates know the flip by specs/Flip/Laws.
+-- Its flip is j = d_k + d_(k-1) b_k + .. + d_1 (b_2 .. b_k)." Only bench_sheet and demands use this page; all other crates know the flip by proofs/FlipLaws.
 --     sum_to k f             f 0 + f 1 + .. + f (k-1)
 --     slot_sum bs ds         the sum over i of d_i b_1 .. b_(i-1)
 --     bin_sum bs ds          the sum over i of d_i b_(i+1) .. b_k
---     slot-digits           every slot below the product is such a sum, of its digits
---     flip-formula          the flip of a slot with the digits ds is the other sum
---     flip-formula-level    and so it is where ratios es of longer periods follow
 --     flip-computes, unflip-computes    the flip on given numbers
 -- Edges: at k = 0 both sums are 0. Digits and ratios are counted from 0 here, from 1 in 01.
 -- Assumes nothing.
-use Rattle.std.specs.Prelude.{◌≡◌, refl, List, [], ◌∷◌, ◌++◌, reverse, ℕ, zero, suc, ◌+◌, ◌*◌, ◌<◌, length, take, drop, get_or}
-use Rattle.std.proofs.Common.{sym, ap, ◌∙◌, mul-one, arith}
-use Rattle.chain.specs.Digits.{product, digits, AllPositive, Digits}
-use Rattle.chain.specs.Products.{level_all}
-use Rattle.chain.specs.Values.{value_of, digits_are, digits_value, value-digits}
+use Rattle.std.specs.Prelude.{◌≡◌, refl, List, reverse, ℕ, zero, suc, ◌+◌, ◌*◌, length, take, drop, get_or}
+use Rattle.chain.specs.Digits.{product, digits}
 use Rattle.chain.specs.Flip.{turned, levels, flip, unflip}
-use Rattle.chain.specs.Levels.{mirror-levels}
-use Rattle.chain.specs.Flip.Laws.{flip-append}
 
 unfoldable pub sum_to : ℕ → (ℕ → ℕ) → ℕ
 sum_to zero f = 0
@@ -27,62 +19,6 @@ slot_sum bs ds = sum_to (length bs) (λ i. get_or ds i 0 * product (take i bs))
 
 abbrev pub bin_sum : List ℕ → List ℕ → ℕ
 bin_sum bs ds = sum_to (length bs) (λ i. get_or ds i 0 * product (drop (suc i) bs))
-
--- a sum by its first term
-sum_first : (k : ℕ) (f : ℕ → ℕ) → sum_to (suc k) f ≡ f 0 + sum_to k (λ i. f (suc i))
-unfolding sum_to
-sum_first zero f = omega arith
-sum_first (suc k) f = omega (arith, sum_first k f)
-
--- a factor of each term is a factor of the sum
-sum-times : (b k : ℕ) (f g : ℕ → ℕ) → ((i : ℕ) → f i ≡ b * g i) → sum_to k f ≡ b * sum_to k g
-unfolding sum_to
-sum-times b zero f g e = omega arith
-sum-times b (suc k) f g e = omega (arith, sum-times b k f g e, e k)
-
-slot-value : (bs ds : List ℕ) → Digits bs ds → slot_sum bs ds ≡ value_of bs ds
-unfolding Digits value_of product sum_to
-slot-value [] [] p = refl
-slot-value [] (d ∷ ds) p = absurd p
-slot-value (b ∷ bs) [] p = absurd p
-slot-value (b ∷ bs) (d ∷ ds) (h, p) =
-    sum_first (length bs) (λ i. get_or (d ∷ ds) i 0 * product (take i (b ∷ bs)))
-    ∙ ap (λ (x : ℕ). d * 1 + x) (shift ∙ ap (λ (x : ℕ). b * x) (slot-value bs ds p))
-    ∙ ap (λ (x : ℕ). x + b * value_of bs ds) (mul-one d)
-  where
-    shift : sum_to (length bs) (λ i. get_or ds i 0 * (b * product (take i bs))) ≡ b * slot_sum bs ds
-    shift = sum-times b (length bs) (λ i. get_or ds i 0 * (b * product (take i bs))) (λ i. get_or ds i 0 * product (take i bs)) (λ i. omega arith)
-
-bin-turned : (bs ds : List ℕ) → Digits bs ds → bin_sum bs ds ≡ turned bs ds
-unfolding Digits turned product sum_to
-bin-turned [] [] p = refl
-bin-turned [] (d ∷ ds) p = absurd p
-bin-turned (b ∷ bs) [] p = absurd p
-bin-turned (b ∷ bs) (d ∷ ds) (h, p) =
-    sum_first (length bs) (λ i. get_or (d ∷ ds) i 0 * product (drop (suc i) (b ∷ bs)))
-    ∙ ap (λ (x : ℕ). d * product bs + x) (bin-turned bs ds p)
-
-digits-positive : (bs ds : List ℕ) → Digits bs ds → AllPositive bs
-unfolding Digits AllPositive
-digits-positive [] [] p = tt
-digits-positive [] (d ∷ ds) p = absurd p
-digits-positive (b ∷ bs) [] p = absurd p
-digits-positive (b ∷ bs) (d ∷ ds) (h, p) = (omega arith, digits-positive bs ds p)
-
-pub slot-digits : (bs : List ℕ) (v : ℕ) → AllPositive bs → v < product bs → slot_sum bs (digits bs v) ≡ v
-slot-digits bs v p l = slot-value bs (digits bs v) (digits_are bs v p) ∙ value-digits bs v p l
-
-pub flip-formula : (bs ds : List ℕ) → Digits bs ds → flip bs (product bs) (slot_sum bs ds) ≡ bin_sum bs ds
-unfolding flip
-flip-formula bs ds p =
-    mirror-levels bs (slot_sum bs ds) (digits-positive bs ds p)
-    ∙ ap (λ (v : ℕ). turned bs (digits bs v)) (slot-value bs ds p)
-    ∙ ap (turned bs) (digits_value bs ds p)
-    ∙ sym (bin-turned bs ds p)
-
-pub flip-formula-level : (bs es ds : List ℕ) → Digits bs ds → flip (bs ++ es) (product bs) (slot_sum bs ds) ≡ bin_sum bs ds
-flip-formula-level bs es ds p =
-    flip-append bs (product bs) (digits-positive bs ds p) (level_all bs) es (slot_sum bs ds) ∙ flip-formula bs ds p
 
 pub flip-computes : (bs : List ℕ) (m v : ℕ) → flip bs m v ≡ turned (levels bs m) (digits (levels bs m) v)
 unfolding flip

@@ -3,7 +3,7 @@ use mathlib.Core.Path.{refl}
 use native.Mathlib.Omega.{arith}
 use lib.ListN.{length-set}
 use Rattle.lists.specs.Lowest.{searching-start, searching-next, searching-found, searching-none}
-use Rattle.probes.specs.Seen.{keeping_start, keeping-positive, keeping-seen, seen_more, keeping-clash, keeping-new, new-room, new-more}
+use Rattle.probes.proofs.Seen.{keeping_start, keeping-positive, keeping-seen, seen_more, keeping-clash, keeping-new, new-room, new-more}
 use Rattle.chained.proofs.unchained.Goals as goal
 use Rattle.chained.proofs.unchained.Goals.{then-not-old+else-clashes, else-not-old}
 

@@ -4,7 +4,7 @@ use Prim.Native.Nat.{◌≤◌, ◌-◌}
 use lib.ListN.{length}
 use Rattle.lists.specs.Lowest.{Searching}
 use Rattle.probes.specs.Chained.{unchained}
-use Rattle.probes.specs.Seen.{Keeping}
+use Rattle.probes.proofs.Seen.{Keeping}
 use Rattle.chained.proofs.unchained.Given as goal
 
 abbrev pub invariant-loop-i : goal.invariant-loop-i

@@ -1,6 +1,6 @@
 -- `checker::check` meets its contract: the judge of a list first, then the meeting. Assumes nothing.
 use Rattle.meetings.specs.Passing.{zero-passes}
-use Rattle.meetings.specs.Laws.{check-refused, check_done}
+use Rattle.meetings.proofs.Laws.{check-refused, check_done}
 use borrow.Author.Rules.{rules}
 use Rattle.checker.proofs.check.Goals as goal
 

@@ -1,8 +1,8 @@
 -- `cornering::corners_judged` meets its contract: each way out is a way of specs/Ways. Assumes nothing.
 use mathlib.Core.Path.{◌∙◌}
 use native.Mathlib.Omega.{arith}
-use Rattle.probes.specs.Laws.{sound-gives}
-use Rattle.probes.specs.Composing.{zero-sound}
+use Rattle.probes.proofs.Laws.{sound-gives}
+use Rattle.probes.proofs.Composing.{zero-sound}
 use Rattle.admitting.specs.Ways.{corners-differ, corners-refused, corners-short-x, corners-short-y, corners-late, corners-pass}
 use borrow.Author.Rules.{rules}
 use Rattle.cornering.proofs.corners_judged.Goals as goal

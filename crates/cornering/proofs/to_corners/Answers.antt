@@ -1,6 +1,6 @@
 -- `packing::to_corners` meets its promise: the judge, and then the corners of all starts. Assumes nothing.
 use native.Mathlib.Omega.{arith}
-use Rattle.probes.specs.Laws.{sound-gives}
+use Rattle.probes.proofs.Laws.{sound-gives}
 use Rattle.grid.specs.Laws.{prepared-of}
 use Rattle.rectangles.specs.Ends.{corners-ready, corners-refused-end, corners-end}
 use borrow.Author.Rules.{rules}

@@ -1,7 +1,7 @@
 -- `edition::blocks_of` meets its contract. Assumes nothing.
 use mathlib.Core.Path.{sym}
 use Rattle.sheets.specs.Layout.{first_edition}
-use Rattle.sheets.specs.LayoutLaws.{blocks-none, blocks_more}
+use Rattle.sheets.proofs.LayoutLaws.{blocks-none, blocks_more}
 use Rattle.edition.proofs.blocks_of.Goals as goal
 
 pub returns-then-n-eq0 : goal.returns-then-n-eq0

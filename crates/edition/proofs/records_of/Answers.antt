@@ -2,7 +2,7 @@
 use mathlib.Core.Path.{sym}
 use native.Mathlib.Omega.{arith}
 use Rattle.sheets.specs.Layout.{first_edition}
-use Rattle.sheets.specs.LayoutLaws.{blocks-least, records-full, records-rest}
+use Rattle.sheets.proofs.LayoutLaws.{blocks-least, records-full, records-rest}
 use Rattle.edition.proofs.records_of.Goals as goal
 
 pub overflow_add-b : goal.overflow_add-b

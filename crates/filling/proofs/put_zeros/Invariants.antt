@@ -5,7 +5,7 @@ use native.Mathlib.Omega.{arith}
 use lib.ListN.{length, replicate}
 use lib.Seq.{sets, length-sets}
 use Rattle.sheets.specs.Layout.{sum_place}
-use Rattle.sheets.specs.FillingLaws.{zeros-store}
+use Rattle.sheets.proofs.FillingLaws.{zeros-store}
 use borrow.Author.Rules.{rules}
 use Rattle.filling.proofs.put_zeros.Given as goal
 

@@ -4,7 +4,7 @@ use mathlib.Core.Bool.{Bool, not}
 use native.Mathlib.Omega.{arith}
 use Rattle.sheets.specs.Layout.{first_edition}
 use Rattle.sheets.specs.Block.{unused, used_unused}
-use Rattle.sheets.specs.LayoutLaws.{records-most}
+use Rattle.sheets.proofs.LayoutLaws.{records-most}
 use Rattle.judging.proofs.used_unused.Goals as goal
 
 pub overflow_mul-records : goal.overflow_mul-records

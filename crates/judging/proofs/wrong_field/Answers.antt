@@ -3,7 +3,7 @@ use mathlib.Core.Path.{sym, ◌∙◌}
 use mathlib.Core.Logic.{inl, inr}
 use native.Mathlib.Omega.{arith}
 use Rattle.sheets.specs.Layout.{first_edition}
-use Rattle.sheets.specs.BlockLaws.{field-is-wrong, field-is-right}
+use Rattle.sheets.proofs.BlockLaws.{field-is-wrong, field-is-right}
 use Rattle.judging.proofs.wrong_field.Goals as goal
 
 pub returns-then-n-gt-PROBES : goal.returns-then-n-gt-PROBES

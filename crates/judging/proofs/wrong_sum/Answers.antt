@@ -3,7 +3,7 @@ use mathlib.Core.Path.{sym, ◌∙◌}
 use mathlib.Core.Logic.{inl}
 use Rattle.lists.specs.Telling.{tells-true}
 use Rattle.sheets.specs.Block.{wrong_sum}
-use Rattle.sheets.specs.BlockLaws.{wrong-sum-tells, second-sum}
+use Rattle.sheets.proofs.BlockLaws.{wrong-sum-tells, second-sum}
 use Rattle.judging.proofs.wrong_sum.Goals as goal
 
 pub returns-then-four-sum : goal.returns-then-four-sum

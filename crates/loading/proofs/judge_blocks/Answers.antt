@@ -7,8 +7,8 @@ use Rattle.sheets.specs.Layout.{first_edition}
 use Rattle.sheets.specs.ByteLaws.{word_two}
 use Rattle.words.specs.Answers.{refused}
 use Rattle.sheets.specs.Blocks.{blocks_in, n_of}
-use Rattle.sheets.specs.BlocksLaws.{size-tested, Searched, searched-start, searched-next, searched-found, searched-none}
-use Rattle.sheets.specs.Loading.{part-long, part-verdict}
+use Rattle.sheets.proofs.BlocksLaws.{size-tested, Searched, searched-start, searched-next, searched-found, searched-none}
+use Rattle.sheets.proofs.Loading.{part-long, part-verdict}
 use borrow.Author.Rules.{rules}
 use Rattle.loading.proofs.judge_blocks.Goals as goal
 

@@ -6,7 +6,7 @@ use native.Mathlib.Omega.{arith}
 use lib.ListN.{length, drop}
 use Rattle.sheets.specs.Layout.{first_edition}
 use Rattle.sheets.specs.Blocks.{field, column}
-use Rattle.sheets.specs.Loading.{field_room, load-long, load-next}
+use Rattle.sheets.proofs.Loading.{field_room, load-long, load-next}
 use borrow.Author.Rules.{rules}
 use Rattle.loading.proofs.load.Goals as goal
 

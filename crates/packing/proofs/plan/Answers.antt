@@ -6,7 +6,7 @@ use lib.ListN.{length, replicate, length-replicate, get_or-replicate}
 use lib.Seq.{length-take-le}
 use Rattle.table.specs.declared.Table.{Table}
 use Rattle.probes.specs.Table.{rows}
-use Rattle.probes.specs.Laws.{sound-gives}
+use Rattle.probes.proofs.Laws.{sound-gives}
 use Rattle.grid.specs.Laws.{prepared-of}
 use Rattle.rectangles.specs.Ends.{plan-ready, plan-refused-end, plan-end}
 use borrow.Author.Rules.{rules}

@@ -1,7 +1,7 @@
 use mathlib.Core.Path.{sym}
 use native.Mathlib.Omega.{arith}
 use lib.Seq.{length-take-le}
-use Rattle.questions.specs.Asking.{opened-few}
+use Rattle.questions.proofs.Asking.{opened-few}
 use Rattle.paper.specs.Laws.{page-refused, page-planned, prints-short, prints-done}
 use borrow.Author.Rules.{rules}
 use Rattle.pages.proofs.plan_page.Goals as goal

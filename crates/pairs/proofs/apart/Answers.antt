@@ -1,6 +1,6 @@
 -- `pairs::apart` meets its contract: the published condition, one half at a time. Assumes nothing.
 use native.Mathlib.Omega.{arith}
-use Rattle.wire.specs.Lag.{lag-lt}
+use Rattle.wire.proofs.Lag.{lag-lt}
 use Rattle.pairs.specs.Steps.{apart-early, apart-is}
 use Rattle.pairs.proofs.apart.Goals as goal
 

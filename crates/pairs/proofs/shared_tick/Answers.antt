@@ -1,6 +1,6 @@
 -- `pairs::shared_tick` meets its contract: one way out for each of the four cases. Assumes nothing.
 use native.Mathlib.Omega.{arith}
-use Rattle.wire.specs.Lag.{lag-lt}
+use Rattle.wire.proofs.Lag.{lag-lt}
 use Rattle.pairs.specs.Steps.{tick-inside, tick-overrun, tick-shorter, tick-second}
 use Rattle.pairs.proofs.shared_tick.Goals as goal
 

@@ -2,7 +2,7 @@ use mathlib.Core.Path.{sym}
 use native.Mathlib.Omega.{arith}
 use lib.Seq.{length-take-le}
 use borrow.Author.Rules.{rules}
-use Rattle.questions.specs.Asking.{opened-few, answers-refused, answers-opened}
+use Rattle.questions.proofs.Asking.{opened-few, answers-refused, answers-opened}
 use Rattle.replies.proofs.reply.Goals as goal
 
 pub returns-then-number-ne0 : goal.returns-then-number-ne0

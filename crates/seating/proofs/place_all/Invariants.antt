@@ -4,7 +4,7 @@ use Prim.Native.Nat.{◌<◌, ◌-◌}
 use native.Mathlib.Omega.{arith}
 use lib.ListN.{length, get_or}
 use borrow.Author.Tests.{not-true, not-false}
-use Rattle.order.specs.Listed.{order-probe}
+use Rattle.order.proofs.Listed.{order-probe}
 use Rattle.seating.specs.Laws.{Seating, seating-start, seating-next, stuck-end, done_end, marked-long, rows_long, order-entry}
 use borrow.Author.Rules.{rules}
 use Rattle.seating.proofs.place_all.Given as goal

@@ -1,8 +1,8 @@
 -- `starting::starts_judged` meets its contract: each way out is a way of specs/Ways. Assumes nothing.
 use mathlib.Core.Path.{◌∙◌}
 use native.Mathlib.Omega.{arith}
-use Rattle.probes.specs.Laws.{sound-gives}
-use Rattle.probes.specs.Composing.{zero-sound}
+use Rattle.probes.proofs.Laws.{sound-gives}
+use Rattle.probes.proofs.Composing.{zero-sound}
 use Rattle.grid.specs.Laws.{prepared-of}
 use Rattle.admitting.specs.Ways.{starts-differ-x, starts-differ-y, starts-refused, starts-short, starts-off, starts-pass}
 use borrow.Author.Rules.{rules}

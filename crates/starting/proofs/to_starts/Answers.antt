@@ -1,6 +1,6 @@
 -- `packing::to_starts` meets its promise: the judge, and then the starts of all corners. Assumes nothing.
 use native.Mathlib.Omega.{arith}
-use Rattle.probes.specs.Laws.{sound-gives}
+use Rattle.probes.proofs.Laws.{sound-gives}
 use Rattle.grid.specs.Laws.{prepared-of}
 use Rattle.rectangles.specs.Ends.{starts-ready, starts-refused-end, starts-end}
 use borrow.Author.Rules.{rules}

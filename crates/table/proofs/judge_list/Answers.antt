@@ -1,8 +1,8 @@
 -- `table::judge_list` meets its contract: the ways out of crate probes, specs/Composing. Assumes nothing.
 use mathlib.Core.Path.{◌∙◌}
 use native.Mathlib.Omega.{arith}
-use Rattle.probes.specs.Laws.{sound-gives}
-use Rattle.probes.specs.Composing.{list_differ, list-refused, list-late, list_done, zero-sound}
+use Rattle.probes.proofs.Laws.{sound-gives}
+use Rattle.probes.proofs.Composing.{list_differ, list-refused, list-late, list_done, zero-sound}
 use Rattle.table.proofs.judge_list.Goals as goal
 
 pub returns-then-n-starts : goal.returns-then-n-starts

@@ -1,9 +1,9 @@
 -- `timetable::holder` meets its contract: the judge first, then the lowest probe that holds the tick. Assumes nothing.
 use mathlib.Core.Path.{◌∙◌}
 use native.Mathlib.Omega.{arith}
-use Rattle.probes.specs.Laws.{sound-gives}
+use Rattle.probes.proofs.Laws.{sound-gives}
 use Rattle.hours.specs.Asking.{zero-asked}
-use Rattle.hours.specs.HolderLaws.{holder-found, holder-idle, holder-refused, holder-done}
+use Rattle.hours.proofs.HolderLaws.{holder-found, holder-idle, holder-refused, holder-done}
 use borrow.Author.Rules.{rules}
 use Rattle.timetable.proofs.holder.Goals as goal
 

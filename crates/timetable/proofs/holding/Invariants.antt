@@ -4,9 +4,9 @@ use Prim.Native.Nat.{◌-◌}
 use native.Mathlib.Omega.{arith}
 use lib.ListN.{length}
 use Rattle.lists.specs.Lowest.{Searching, searching-start, searching-next, searching-found, searching-none}
-use Rattle.probes.specs.Laws.{sound-gives}
+use Rattle.probes.proofs.Laws.{sound-gives}
 use Rattle.hours.specs.Timetable.{holds_test}
-use Rattle.hours.specs.HolderLaws.{holds_at}
+use Rattle.hours.proofs.HolderLaws.{holds_at}
 use borrow.Author.Rules.{rules}
 use Rattle.timetable.proofs.holding.Given as goal
 

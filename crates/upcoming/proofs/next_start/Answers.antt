@@ -1,6 +1,6 @@
 -- `timetable::next_start` meets its contract: the judge first, then the next start. Assumes nothing.
 use Rattle.hours.specs.Asking.{zero-asked, asked-timed}
-use Rattle.hours.specs.NextLaws.{next-refused, next-done}
+use Rattle.hours.proofs.NextLaws.{next-refused, next-done}
 use borrow.Author.Rules.{rules}
 use Rattle.upcoming.proofs.next_start.Goals as goal
 

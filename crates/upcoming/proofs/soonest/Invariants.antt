@@ -6,7 +6,7 @@ use native.Mathlib.Omega.{arith}
 use lib.ListN.{length}
 use Rattle.words.specs.Answers.{pair}
 use Rattle.hours.specs.Timetable.{next_of}
-use Rattle.hours.specs.NextLaws.{next-none, next_one, turn-sooner, turn-kept, next-all}
+use Rattle.hours.proofs.NextLaws.{next-none, next_one, turn-sooner, turn-kept, next-all}
 use borrow.Author.Rules.{rules}
 use Rattle.upcoming.proofs.soonest.Given as goal
 

@@ -4,9 +4,9 @@ use native.Mathlib.Omega.{arith}
 use lib.ListN.{length}
 use Rattle.words.specs.declared.Answer.{Answer}
 use Rattle.sheets.specs.Layout.{first_edition}
-use Rattle.sheets.specs.LayoutLaws.{blocks-few}
+use Rattle.sheets.proofs.LayoutLaws.{blocks-few}
 use Rattle.volumes.specs.Writing.{pages}
-use Rattle.volumes.specs.WriteLaws.{writes_as, write-starts, write-lengths, write-many, write-short, done-writes}
+use Rattle.volumes.proofs.WriteLaws.{writes_as, write-starts, write-lengths, write-many, write-short, done-writes}
 use borrow.Author.Rules.{rules}
 use Rattle.writing.proofs.write.Goals as goal
 

@@ -1,6 +1,6 @@
 -- `pairs::Probe::at` meets its contract: the three columns are of one length. Assumes nothing.
 use native.Mathlib.Omega.{arith}
-use Rattle.probes.specs.Laws.{sound-gives}
+use Rattle.probes.proofs.Laws.{sound-gives}
 use Rattle.pairs.proofs.Probe.at.Goals as goal
 
 pub bounds-lengths-i : goal.bounds-lengths-i

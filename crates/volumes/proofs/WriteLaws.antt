@@ -13,7 +13,7 @@ use Rattle.words.specs.Answers.{refused}
 use Rattle.sheets.specs.Layout.{Layout, first_edition, block_bytes, most_n, blocks_of}
 use Rattle.sheets.specs.Runs.{run_from, length_run}
 use Rattle.sheets.specs.Filling.{block_of}
-use Rattle.sheets.specs.FillingLaws.{length-block}
+use Rattle.sheets.proofs.FillingLaws.{length-block}
 use Rattle.volumes.specs.Writing.{book_of, Pages, pages, write_lines, write_findings, refused_write, done_write, Writes, write_of}
 
 pub length-book : (Ts ps ss : List ℕ) → length (book_of first_edition Ts ps ss) ≡ blocks_of first_edition (length Ts) * block_bytes

@@ -16,8 +16,9 @@ use Rattle.std.proofs.Math.Seq.{sets-eq}
 use Rattle.sheets.specs.Bytes.{bytes}
 use Rattle.sheets.specs.Layout.{first_edition, block_bytes, head_bytes, sum_place, records_of}
 use Rattle.sheets.specs.Runs.{run_from, length_run, sets-on}
-use Rattle.sheets.specs.LayoutLaws.{records-most}
+use Rattle.sheets.proofs.LayoutLaws.{records-most}
 use Rattle.sheets.specs.Filling.{record_at, head_of, body_of, sums_of, block_of}
+
 pub use Rattle.sheets.specs.RecordLaws.{length-record}
 
 pub length-head : (n b : ℕ) → length (head_of first_edition n b) ≡ head_bytes

@@ -16,16 +16,17 @@ use Rattle.sheets.specs.Bytes.{AreBytes, AreWords, bytes, word, byte_sum, place_
 use Rattle.sheets.specs.Layout.{first_edition, most_n, blocks_of, records_of}
 use Rattle.sheets.specs.Runs.{run_from, length_run, run-piece}
 use Rattle.sheets.specs.ByteLaws.{value-bytes, byte-sum-most, place-sum-most}
-use Rattle.sheets.specs.LayoutLaws.{blocks-few, blocks-room, records-most, records-full, records-rest}
+use Rattle.sheets.proofs.LayoutLaws.{blocks-few, blocks-room, records-most, records-full, records-rest}
 use Rattle.sheets.specs.Pieces.{part-of-take, part-of-left, word-part, bytes-are, append-are, run-are, zeros-are, zeros-zero}
 use Rattle.sheets.specs.Block.{WrongSum, unused}
 use Rattle.sheets.specs.Filling.{record_of, record_at, head_of, body_of, sums_of, block_of}
-use Rattle.sheets.specs.FillingLaws.{length-record, length-head, length-body, length-block}
+use Rattle.sheets.proofs.FillingLaws.{length-record, length-head, length-body, length-block}
 use Rattle.volumes.specs.Reading.{block_at, blocks_in, n_of, field, column}
-use Rattle.sheets.specs.BlocksLaws.{verdict_at, RightBlock, block-right}
-use Rattle.sheets.specs.Loading.{length-column, column-at}
+use Rattle.sheets.specs.BlocksLaws.{verdict_at, RightBlock}
+use Rattle.sheets.proofs.BlocksLaws.{block-right}
+use Rattle.sheets.proofs.Loading.{length-column, column-at}
 use Rattle.volumes.specs.Writing.{book_of}
-use Rattle.volumes.specs.WriteLaws.{length-book}
+use Rattle.volumes.proofs.WriteLaws.{length-book}
 
 module _ (Ts ps ss : List ℕ) (few : length Ts ≤ most_n) where
   body : ℕ → List ℕ
@@ -135,7 +136,7 @@ module _ (Ts ps ss : List ℕ) (few : length Ts ≤ most_n) where
   pub n-there : n_of (book_of first_edition Ts ps ss) ≡ length Ts
   unfolding n_of block_at
   n-there =
-      let some = Rattle.sheets.specs.LayoutLaws.blocks-some first_edition (omega arith) (length Ts) in
+      let some = Rattle.sheets.proofs.LayoutLaws.blocks-some first_edition (omega arith) (length Ts) in
       sym (word-part 2 (0 * 512) 6 512 (book_of first_edition Ts ps ss) (omega arith)) ∙ ap (word 2 6) (block-there 0 some) ∙ (written-right 0 some).fields.probes
 
   pub book-passes : (b : ℕ) → b < blocks_in (book_of first_edition Ts ps ss) → verdict_at first_edition (book_of first_edition Ts ps ss) b ≡ 0

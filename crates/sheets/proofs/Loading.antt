@@ -15,12 +15,13 @@ use Rattle.std.proofs.Math.Seq.{length-take-le}
 use Rattle.std.proofs.lemmas.List.{set_at}
 use Rattle.sheets.specs.Bytes.{word}
 use Rattle.sheets.specs.Layout.{Layout, first_edition, block_bytes, most_n, blocks_of}
-use Rattle.sheets.specs.LayoutLaws.{blocks_more}
+use Rattle.sheets.proofs.LayoutLaws.{blocks_more}
 use Rattle.sheets.specs.Block.{block_verdict}
 use Rattle.words.specs.declared.Answer.{Answer}
 use Rattle.words.specs.Answers.{refused}
 use Rattle.sheets.specs.Blocks.{bad_size, block_at, blocks_in, n_of, judged_blocks, field, column}
-use Rattle.sheets.specs.BlocksLaws.{verdict_at, judged-right, judged-n, right-block, size-tested}
+use Rattle.sheets.specs.BlocksLaws.{verdict_at}
+use Rattle.sheets.proofs.BlocksLaws.{judged-right, judged-n, right-block, size-tested}
 
 module _ (bs : List ℕ) (b : ℕ) where
   pub block-long : b < blocks_in bs → length (block_at b bs) ≡ block_bytes

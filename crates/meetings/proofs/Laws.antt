@@ -19,14 +19,16 @@ use Rattle.words.specs.declared.Answer.{Answer}
 use Rattle.words.specs.Answers.{refused, done, pair}
 use Rattle.wire.specs.Wire.{Clean}
 use Rattle.wire.specs.Meeting.{apart_at, tick_at}
-use Rattle.wire.specs.FirstShared.{first-shared-unique}
-use Rattle.wire.specs.CleanTest.{NeverMeetAt, clean-pairs, apart-at-tells, tick-at-first}
+use Rattle.wire.proofs.FirstShared.{first-shared-unique}
+use Rattle.wire.specs.CleanTest.{NeverMeetAt}
+use Rattle.wire.proofs.CleanTest.{clean-pairs, apart-at-tells, tick-at-first}
 use Rattle.probes.specs.Table.{widths, list_lines}
 use Rattle.probes.specs.Verdict.{list_findings}
-use Rattle.probes.specs.Laws.{sound-gives}
-use Rattle.probes.specs.Composing.{list_verdict, list-find, list-numbered, compose-done, compose-refused, refusal_is}
+use Rattle.probes.proofs.Laws.{sound-gives}
+use Rattle.probes.specs.Composing.{list_verdict}
+use Rattle.probes.proofs.Composing.{list-find, list-numbered, compose-done, compose-refused, refusal_is}
 use Rattle.meetings.specs.Check.{Meets, Judged, partner, opener, meeting_of, Checks, checked}
-use Rattle.probes.specs.Widths.{widths-none}
+use Rattle.probes.proofs.Widths.{widths-none}
 use Rattle.meetings.specs.Passing.{Passes, passes-gives, silent-passes}
 
 module _ (Ts qs ss : List ℕ) where

@@ -15,10 +15,10 @@ use Rattle.words.specs.Answers.{refused}
 use Rattle.sheets.specs.Layout.{first_edition, most_n}
 use Rattle.volumes.specs.Reading.{n_of, Columns, columns, Reads}
 use Rattle.volumes.specs.ReadLaws.{read_meets}
-use Rattle.meetings.specs.Laws.{checked-meets}
+use Rattle.meetings.proofs.Laws.{checked-meets}
 use Rattle.meetings.proofs.Promises.{check-unique}
-use Rattle.hours.specs.HolderLaws.{holder-meets}
-use Rattle.hours.specs.NextLaws.{next-meets}
+use Rattle.hours.proofs.HolderLaws.{holder-meets}
+use Rattle.hours.proofs.NextLaws.{next-meets}
 use Rattle.hours.proofs.Promises.{holder-unique, next-start-unique}
 use Rattle.questions.specs.declared.Question.{Question}
 use Rattle.questions.specs.declared.Question.TheVariants.{IsClean, HolderAt, StartFrom}

@@ -12,15 +12,15 @@ use Rattle.words.specs.declared.Answer.{Answer}
 use Rattle.words.specs.Answers.{refused}
 use Rattle.sheets.specs.Bytes.{AreBytes, AreWords}
 use Rattle.sheets.specs.Layout.{first_edition, block_bytes, most_n, blocks_of}
-use Rattle.sheets.specs.LayoutLaws.{blocks-some, blocks-least}
+use Rattle.sheets.proofs.LayoutLaws.{blocks-some, blocks-least}
 use Rattle.volumes.specs.Reading.{BadSize, bad_size, blocks_in, n_of, judged_blocks, column, Columns, columns, ShortColumn, refused_read, done_read, Reads, read_of}
 use Rattle.volumes.specs.Writing.{book_of, Pages, pages, refused_write, done_write, Writes, write_of}
-use Rattle.sheets.specs.BlocksLaws.{judged-right, right-judged, size-tested, bad-size-tells}
-use Rattle.sheets.specs.Loading.{passed, length-column}
+use Rattle.sheets.proofs.BlocksLaws.{judged-right, right-judged, size-tested, bad-size-tells}
+use Rattle.sheets.proofs.Loading.{passed, length-column}
 use Rattle.volumes.specs.ReadLaws.{read-size, read-block, read_short, read_done, reads_as}
-use Rattle.volumes.specs.WriteLaws.{length-book, write-starts, write-lengths, write-many, write-short, write_done, writes_as}
+use Rattle.volumes.proofs.WriteLaws.{length-book, write-starts, write-lengths, write-many, write-short, write_done, writes_as}
 use Rattle.volumes.specs.ReadThenWrite.{book-back, count-is}
-use Rattle.volumes.specs.WriteThenRead.{n-there, book-passes, periods-back, lengths-back, starts-back}
+use Rattle.volumes.proofs.WriteThenRead.{n-there, book-passes, periods-back, lengths-back, starts-back}
 
 -- a done reading: no check applied
 module _ (bs Ts ps ss : List ℕ) where

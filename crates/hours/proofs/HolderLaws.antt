@@ -14,10 +14,11 @@ use Rattle.lists.specs.Answering.{first-of}
 use Rattle.words.specs.declared.Answer.{Answer}
 use Rattle.words.specs.Answers.{refused, mark}
 use Rattle.wire.specs.Wire.{HoldsAt}
-use Rattle.wire.specs.Window.{holds, holds-tells}
+use Rattle.wire.specs.Window.{holds}
+use Rattle.wire.proofs.Window.{holds-tells}
 use Rattle.probes.specs.Table.{widths}
 use Rattle.hours.specs.Timetable.{ask_lines, ask_findings, phase, HeldBy, holds_test, holder_of, Holder, holder_answer}
-use Rattle.probes.specs.Widths.{widths-none}
+use Rattle.probes.proofs.Widths.{widths-none}
 use Rattle.hours.specs.Asking.{ask_verdict, ask-find, ask-refused, ask-passed}
 
 module _ (Ts qs ss : List ℕ) (t : ℕ) where

@@ -19,7 +19,7 @@ use borrow.Author.Tests.{le-leb, lt-leb, lt-ltb}
 use Rattle.lists.specs.Answering.{first-of}
 use Rattle.words.specs.declared.Answer.{Answer}
 use Rattle.words.specs.Answers.{refused, pair, mark}
-use Rattle.probes.specs.Laws.{sound-gives}
+use Rattle.probes.proofs.Laws.{sound-gives}
 use Rattle.moments.specs.Laws.{candidate-now, candidate-here, candidate-later}
 use Rattle.hours.specs.Timetable.{ask_lines, ask_findings, Starts, IsNextStart, NextStart, NextFrom, phase, candidate, next_of, next_answer}
 use Rattle.hours.specs.Asking.{ask_verdict, silent-asked, ask-find, ask-refused, ask-passed}

@@ -17,7 +17,7 @@ use Rattle.lists.specs.Pick.{Tells}
 use Rattle.lists.specs.Telling.{tells_as, tells_both, tells-le}
 use Rattle.wire.specs.Wire.{NeverMeet}
 use Rattle.wire.specs.Meeting.{lag, Apart, apart}
-use Rattle.wire.specs.Lag.{lag-lt, seen}
+use Rattle.wire.proofs.Lag.{lag-lt, seen}
 
 pub never-meet-swap : (T q s U r u : ℕ) → NeverMeet T q s U r u → NeverMeet U r u T q s
 never-meet-swap T q s U r u n t a b = n t b a

@@ -17,8 +17,8 @@ use Rattle.lists.specs.Harmonic.{Harmonic, Positive}
 use Rattle.lists.specs.Telling.{tells-true}
 use Rattle.wire.specs.Wire.{Clean}
 use Rattle.wire.specs.Meeting.{lag, apart, apart_at, apart_below, clean_below, clean, moved}
-use Rattle.wire.specs.Lag.{lag-lt, lag-moved}
-use Rattle.wire.specs.CleanTest.{apart_by, at-by-first, at-by-second, clean-tells}
+use Rattle.wire.proofs.Lag.{lag-lt, lag-moved}
+use Rattle.wire.proofs.CleanTest.{apart_by, at-by-first, at-by-second, clean-tells}
 
 pub length_moved : (o : ℕ) (Ts ss : List ℕ) → length Ts ≡ length ss → length (moved o Ts ss) ≡ length ss
 unfolding moved

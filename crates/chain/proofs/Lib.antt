@@ -1,0 +1,10 @@
+pub mod Mirror
+pub mod Levels
+pub mod RatioLaws
+pub mod Slotted
+pub mod Gathering
+pub mod Twelve
+pub mod CornerLaws
+pub mod FlipLaws
+pub mod FlipSteps
+pub mod FlipFormula

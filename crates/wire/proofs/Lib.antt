@@ -1,0 +1,6 @@
+pub mod Lag
+pub mod Apartness
+pub mod FirstShared
+pub mod CleanTest
+pub mod Moving
+pub mod Window
