@@ -1,14 +1,14 @@
 // Reads a book from standard input and prints its plan.
 #![tactic(auto)]
 
-use libc::{STDIN_FILENO, STDOUT_FILENO};
 use pages::Page;
+use std::io;
 
-fn main() {
+fn main(rt: HostRuntime) {
     let mut book = [0u8; Page::INPUT];
-    let n = io::read_full(STDIN_FILENO, &mut book);
+    let n = stream::read_full(&mut rt.reader(), &mut book);
     let mut page = [0u8; Page::PLAN];
     let printed = pages::plan_page(&book[..n], &mut page);
     let size = printed.index as usize;
-    io::write_all(STDOUT_FILENO, &page[..size]);
+    stream::write_all(&mut io::writer(&rt), &page[..size]);
 }

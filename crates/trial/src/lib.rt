@@ -1,4 +1,4 @@
-// Every public call on columns as an export on slices, for tests and benchmarks alone.
+// Every public call on columns as a call on slices alone, for tests and benchmarks; trial_c exports them to C.
 // The answer goes into `out` as five numbers, where it is long enough: number, index, second index, the tick's lower and upper half.
 #![tactic(auto)]
 
@@ -16,13 +16,11 @@ pub fn tell(given: Answer, out: &mut [u32]) {
     out[4] = (tick / 4_294_967_296) as u32;
 }
 
-#[unsafe(no_mangle)]
-pub extern "C" fn trial_validate(periods: &[u32], lengths: &[u32], out: &mut [u32]) {
+pub fn trial_validate(periods: &[u32], lengths: &[u32], out: &mut [u32]) {
     tell(table::validate(periods, lengths), out);
 }
 
-#[unsafe(no_mangle)]
-pub extern "C" fn trial_to_corners(
+pub fn trial_to_corners(
     periods: &[u32],
     lengths: &[u32],
     starts: &[u32],
@@ -33,8 +31,7 @@ pub extern "C" fn trial_to_corners(
     tell(packing::to_corners(periods, lengths, starts, xs, ys), out);
 }
 
-#[unsafe(no_mangle)]
-pub extern "C" fn trial_to_starts(
+pub fn trial_to_starts(
     periods: &[u32],
     lengths: &[u32],
     xs: &[u32],
@@ -45,8 +42,7 @@ pub extern "C" fn trial_to_starts(
     tell(packing::to_starts(periods, lengths, xs, ys, starts), out);
 }
 
-#[unsafe(no_mangle)]
-pub extern "C" fn trial_plan(
+pub fn trial_plan(
     periods: &[u32],
     lengths: &[u32],
     starts: &mut [u32],
@@ -56,13 +52,11 @@ pub extern "C" fn trial_plan(
     tell(packing::plan(periods, lengths, starts, fills), out);
 }
 
-#[unsafe(no_mangle)]
-pub extern "C" fn trial_check(periods: &[u32], lengths: &[u32], starts: &[u32], out: &mut [u32]) {
+pub fn trial_check(periods: &[u32], lengths: &[u32], starts: &[u32], out: &mut [u32]) {
     tell(checker::check(periods, lengths, starts), out);
 }
 
-#[unsafe(no_mangle)]
-pub extern "C" fn trial_holder(
+pub fn trial_holder(
     periods: &[u32],
     lengths: &[u32],
     starts: &[u32],
@@ -73,8 +67,7 @@ pub extern "C" fn trial_holder(
     tell(held.answer, out);
 }
 
-#[unsafe(no_mangle)]
-pub extern "C" fn trial_next_start(
+pub fn trial_next_start(
     periods: &[u32],
     lengths: &[u32],
     starts: &[u32],

@@ -74,4 +74,4 @@ returns c =
     let tall = tall-is a.periods.now a.table a.chain g.prepared a.i g.probe in
     let w = shortest-is a.periods.now a.table a.chain g.prepared in
     let y = row-bin a.periods.now a.lengths.now a.table a.chain a.starts.now a.fills.now a.i g c.lowest_row-y.result (rw (tall, w) at c.lowest_row-y.ensures) in
-    row-tried a.periods.now a.lengths.now a.table a.chain a.starts.now a.fills.now a.i g c.lowest_row-y.result y c.if-fills-y.false _ _ c.start_of_lem.ensures (rw (← tall) c.raise_rows.ensures)
+    row-tried a.periods.now a.lengths.now a.table a.chain a.starts.now a.fills.now a.i g c.lowest_row-y.result y c.if-fills-y.false _ _ c.start_of.ensures (rw (← tall) c.raise_rows.ensures)

@@ -35,7 +35,7 @@ pub loop-i-preserved : goal.loop-i-preserved
 loop-i-preserved c =
     let Ts = c.args.periods.now in
     let l = c.loop-i in
-    (omega arith, filling-next _ _ l.starts l.i _ (omega arith) c.start_of_lem.ensures l.invariant.1)
+    (omega arith, filling-next _ _ l.starts l.i _ (omega arith) c.start_of.ensures l.invariant.1)
 
 pub shape_of-starts : goal.shape_of-starts
 shape_of-starts c =

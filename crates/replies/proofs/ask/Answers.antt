@@ -4,12 +4,12 @@ use Rattle.replies.proofs.ask.Goals as goal
 
 pub returns-in-IsClean : goal.returns-in-IsClean
 unfolding Replies
-returns-in-IsClean c = rw c.enum_told-1.given.1 c.check.ensures
+returns-in-IsClean c = rw c.in-IsClean.is c.check.ensures
 
 pub returns-in-HolderAt : goal.returns-in-HolderAt
 unfolding Replies
-returns-in-HolderAt c = rw c.question-1.given.1 c.holder-held.ensures
+returns-in-HolderAt c = rw c.in-HolderAt.is c.holder-held.ensures
 
 pub returns-in-StartFrom : goal.returns-in-StartFrom
 unfolding Replies
-returns-in-StartFrom c = rw c.question-in-StartFrom-1.given.1 c.next_start.ensures
+returns-in-StartFrom c = rw c.in-StartFrom.is c.next_start.ensures

@@ -13,32 +13,32 @@ returns-then-number-ne0 c =
 pub slice_bounds-periods-end : goal.slice_bounds-periods-end
 slice_bounds-periods-end c =
     let r = c.read-read in
-    omega (arith, r.auto.1.0, opened-few _ _ _ _ _ r.ensures c.if-number-ne0.false)
+    omega (arith, r.auto.periods, opened-few _ _ _ _ _ r.ensures c.if-number-ne0.false)
 
 pub slice_bounds-ask-end : goal.slice_bounds-ask-end
 slice_bounds-ask-end c =
     let r = c.read-read in
-    sym (length-take-le r.result.index r.new.lengths (omega (arith, r.auto.1.0, opened-few _ _ _ _ _ r.ensures c.if-number-ne0.false)))
+    sym (length-take-le r.result.index r.new.periods (omega (arith, r.auto.periods, opened-few _ _ _ _ _ r.ensures c.if-number-ne0.false)))
 
 pub slice_bounds-lengths-end : goal.slice_bounds-lengths-end
 slice_bounds-lengths-end c =
     let r = c.read-read in
-    omega (arith, r.auto.1.1.0, opened-few _ _ _ _ _ r.ensures c.if-number-ne0.false)
+    omega (arith, r.auto.lengths, opened-few _ _ _ _ _ r.ensures c.if-number-ne0.false)
 
 pub slice_bounds-ask-end-2 : goal.slice_bounds-ask-end-2
 slice_bounds-ask-end-2 c =
     let r = c.read-read in
-    sym (length-take-le r.result.index r.new.starts.0 (omega (arith, r.auto.1.1.0, opened-few _ _ _ _ _ r.ensures c.if-number-ne0.false)))
+    sym (length-take-le r.result.index r.new.lengths (omega (arith, r.auto.lengths, opened-few _ _ _ _ _ r.ensures c.if-number-ne0.false)))
 
 pub slice_bounds-starts-end : goal.slice_bounds-starts-end
 slice_bounds-starts-end c =
     let r = c.read-read in
-    omega (arith, r.auto.1.1.1.0, opened-few _ _ _ _ _ r.ensures c.if-number-ne0.false)
+    omega (arith, r.auto.starts, opened-few _ _ _ _ _ r.ensures c.if-number-ne0.false)
 
 pub slice_bounds-ask-end-3 : goal.slice_bounds-ask-end-3
 slice_bounds-ask-end-3 c =
     let r = c.read-read in
-    sym (length-take-le r.result.index r.new.starts.1.0 (omega (arith, r.auto.1.1.1.0, opened-few _ _ _ _ _ r.ensures c.if-number-ne0.false)))
+    sym (length-take-le r.result.index r.new.starts (omega (arith, r.auto.starts, opened-few _ _ _ _ _ r.ensures c.if-number-ne0.false)))
 
 pub returns : goal.returns
 returns c =
