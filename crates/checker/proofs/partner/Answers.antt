@@ -1,5 +1,5 @@
 -- `checker::partner` meets its contract: the places above i and below j were tried, and i meets none of them. Assumes nothing.
-use mathlib.Core.Path.{◌∙◌}
+use mathlib.Core.Path.{ap, ◌∙◌}
 use mathlib.Core.Bool.{not}
 use Prim.Native.Nat.{◌-◌, ◌<◌}
 use native.Mathlib.Omega.{arith}
@@ -29,7 +29,7 @@ returns-then-not-free c =
     let ss = c.args.starts.now in
     let i = c.args.i in
     let l = c.loop-j in
-    searching-found _ _ l.j (omega arith) (above-is Ts ps ss i l.j _ (omega arith) c.apart_at-free.ensures ∙ c.if-not-free.true-raw) l.invariant.1
+    searching-found _ _ l.j (omega arith) (above-is Ts ps ss i l.j _ (omega arith) c.apart_at-free.ensures ∙ ap not c.if-not-free.true) l.invariant.1
 
 pub loop-j-preserved : goal.loop-j-preserved
 loop-j-preserved c =
@@ -38,7 +38,7 @@ loop-j-preserved c =
     let ss = c.args.starts.now in
     let i = c.args.i in
     let l = c.loop-j in
-    (omega arith, searching-next _ _ l.j (omega arith) (above-is Ts ps ss i l.j _ (omega arith) c.apart_at-free.ensures ∙ c.if-not-free.false-raw) l.invariant.1)
+    (omega arith, searching-next _ _ l.j (omega arith) (above-is Ts ps ss i l.j _ (omega arith) c.apart_at-free.ensures ∙ ap not c.if-not-free.false) l.invariant.1)
 
 pub returns : goal.returns
 unfolding partner

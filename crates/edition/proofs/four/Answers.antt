@@ -6,34 +6,34 @@ use borrow.Author.Rules.{rules}
 use Rattle.edition.proofs.four.Goals as goal
 
 pub overflow_cast-low : goal.overflow_cast-low
-overflow_cast-low c = omega (arith, c.shared_slice_known-1.given c.args.at)
+overflow_cast-low c = omega (arith, c.type_inv.book c.args.at)
 
 pub overflow_cast-second : goal.overflow_cast-second
-overflow_cast-second c = omega (arith, c.shared_slice_known-1.given (c.args.at + 1))
+overflow_cast-second c = omega (arith, c.type_inv.book (c.args.at + 1))
 
 pub overflow_cast-third : goal.overflow_cast-third
-overflow_cast-third c = omega (arith, c.shared_slice_known-1.given (c.args.at + 2))
+overflow_cast-third c = omega (arith, c.type_inv.book (c.args.at + 2))
 
 pub overflow_cast-high : goal.overflow_cast-high
-overflow_cast-high c = omega (arith, c.shared_slice_known-1.given (c.args.at + 3))
+overflow_cast-high c = omega (arith, c.type_inv.book (c.args.at + 3))
 
 pub overflow_mul-result : goal.overflow_mul-result
-overflow_mul-result c = omega (arith, c.shared_slice_known-1.given (c.args.at + 3))
+overflow_mul-result c = omega (arith, c.type_inv.book (c.args.at + 3))
 
 pub overflow_add-result : goal.overflow_add-result
-overflow_add-result c = omega (arith, c.shared_slice_known-1.given (c.args.at + 2), c.shared_slice_known-1.given (c.args.at + 3))
+overflow_add-result c = omega (arith, c.type_inv.book (c.args.at + 2), c.type_inv.book (c.args.at + 3))
 
 pub overflow_mul-result-2 : goal.overflow_mul-result-2
-overflow_mul-result-2 c = omega (arith, c.shared_slice_known-1.given (c.args.at + 2), c.shared_slice_known-1.given (c.args.at + 3))
+overflow_mul-result-2 c = omega (arith, c.type_inv.book (c.args.at + 2), c.type_inv.book (c.args.at + 3))
 
 pub overflow_add-result-2 : goal.overflow_add-result-2
-overflow_add-result-2 c = omega (arith, c.shared_slice_known-1.given (c.args.at + 1), c.shared_slice_known-1.given (c.args.at + 2), c.shared_slice_known-1.given (c.args.at + 3))
+overflow_add-result-2 c = omega (arith, c.type_inv.book (c.args.at + 1), c.type_inv.book (c.args.at + 2), c.type_inv.book (c.args.at + 3))
 
 pub overflow_mul-result-3 : goal.overflow_mul-result-3
-overflow_mul-result-3 c = omega (arith, c.shared_slice_known-1.given (c.args.at + 1), c.shared_slice_known-1.given (c.args.at + 2), c.shared_slice_known-1.given (c.args.at + 3))
+overflow_mul-result-3 c = omega (arith, c.type_inv.book (c.args.at + 1), c.type_inv.book (c.args.at + 2), c.type_inv.book (c.args.at + 3))
 
 pub overflow_add-result-3 : goal.overflow_add-result-3
-overflow_add-result-3 c = omega (arith, c.shared_slice_known-1.given c.args.at, c.shared_slice_known-1.given (c.args.at + 1), c.shared_slice_known-1.given (c.args.at + 2), c.shared_slice_known-1.given (c.args.at + 3))
+overflow_add-result-3 c = omega (arith, c.type_inv.book c.args.at, c.type_inv.book (c.args.at + 1), c.type_inv.book (c.args.at + 2), c.type_inv.book (c.args.at + 3))
 
 pub returns : goal.returns
 returns c = word-four _ _ c.requires

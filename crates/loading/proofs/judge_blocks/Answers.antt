@@ -93,7 +93,7 @@ overflow_cast-n c =
     let B = c.args.book.now in
     let s = size-tested first_edition B c.requires in
     let e = c.two-n.ensures in
-    omega (arith, word_two B 6 (omega arith), c.shared_slice_known-1.given 6, c.shared_slice_known-1.given 7)
+    omega (arith, word_two B 6 (omega arith), c.type_inv.book 6, c.type_inv.book 7)
 
 pub returns : goal.returns
 unfolding blocks_in n_of

@@ -14,16 +14,16 @@ unfolding byte_sum
 loop-i-init c = (omega arith, refl, omega arith)
 
 pub overflow_cast-sum : goal.overflow_cast-sum
-overflow_cast-sum c = omega (arith, c.shared_slice_known-1.given c.loop-i.i)
+overflow_cast-sum c = omega (arith, c.type_inv.block c.loop-i.i)
 
 pub overflow_add-sum : goal.overflow_add-sum
-overflow_add-sum c = omega (arith, c.shared_slice_known-1.given c.loop-i.i)
+overflow_add-sum c = omega (arith, c.type_inv.block c.loop-i.i)
 
 pub loop-i-preserved : goal.loop-i-preserved
 loop-i-preserved c =
     let l = c.loop-i in
     let B = c.args.block.now in
-    let b = c.shared_slice_known-1.given c.loop-i.i in
+    let b = c.type_inv.block c.loop-i.i in
     (omega arith, omega (arith, sum-next B l.i (omega arith)), omega arith)
 
 pub returns : goal.returns

@@ -14,13 +14,13 @@ unfolding place_sum
 loop-place-init c = (omega arith, refl, omega arith)
 
 pub overflow_cast-sum : goal.overflow_cast-sum
-overflow_cast-sum c = omega (arith, c.shared_slice_known-1.given c.loop-place.place)
+overflow_cast-sum c = omega (arith, c.type_inv.block c.loop-place.place)
 
 pub overflow_mul-sum : goal.overflow_mul-sum
 overflow_mul-sum c =
     let l = c.loop-place in
     let B = c.args.block.now in
-    let b = c.shared_slice_known-1.given c.loop-place.place in
+    let b = c.type_inv.block c.loop-place.place in
     let p : (l.place + 1) * get_or B l.place 0 ≤ 255 * 504 = place-part l.place 504 (get_or B l.place 0) (omega arith) (omega arith) in
     omega arith
 
@@ -28,7 +28,7 @@ pub overflow_add-sum-in-loop-place : goal.overflow_add-sum-in-loop-place
 overflow_add-sum-in-loop-place c =
     let l = c.loop-place in
     let B = c.args.block.now in
-    let b = c.shared_slice_known-1.given c.loop-place.place in
+    let b = c.type_inv.block c.loop-place.place in
     let p : (l.place + 1) * get_or B l.place 0 ≤ 255 * 504 = place-part l.place 504 (get_or B l.place 0) (omega arith) (omega arith) in
     omega arith
 
@@ -36,7 +36,7 @@ pub loop-place-preserved : goal.loop-place-preserved
 loop-place-preserved c =
     let l = c.loop-place in
     let B = c.args.block.now in
-    let b = c.shared_slice_known-1.given c.loop-place.place in
+    let b = c.type_inv.block c.loop-place.place in
     let p : (l.place + 1) * get_or B l.place 0 ≤ 255 * 504 = place-part l.place 504 (get_or B l.place 0) (omega arith) (omega arith) in
     (omega arith, omega (arith, place-next B l.place (omega arith)), omega arith)
 

@@ -1,0 +1,15 @@
+-- `plan::main` is safe: what is printed is within the page. Assumes nothing.
+use mathlib.Core.Path.{sym}
+use lib.Seq.{length-take-le}
+use Rattle.paper.specs.Laws.{prints-within}
+use Rattle.plan.proofs.main.Goals as goal
+
+pub slice_bounds-page-end : goal.slice_bounds-page-end
+slice_bounds-page-end c =
+    let r = c.plan_page-printed in
+    prints-within _ _ _ _ r.ensures r.auto.out
+
+pub slice_bounds-write_all-end : goal.slice_bounds-write_all-end
+slice_bounds-write_all-end c =
+    let r = c.plan_page-printed in
+    sym (length-take-le r.result.index r.new.out (prints-within _ _ _ _ r.ensures r.auto.out))
