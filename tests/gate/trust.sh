@@ -2,6 +2,7 @@
 # docs/TRUST.md has what the check of each program and each archive says last, its `logic=` line, and which axioms it reaches, by name; no other crate's line counts an axiom.
 # They are read where tests/made builds them (target/made.log), and in this run of the gate (target/ci.log), where rt ci prints such lines for the crates that it
 # proved in this run alone. Of a crate that is kept from an earlier run of the same files it says just that, and of a kept library this test sees no more.
+# No handle is allowed, by which a function could wait or stop in place of answering.
 # With another toolchain than the page names, that is said, and the sums of the logic are not compared.
 . "$(dirname "$0")/common"
 log=target/ci.log
@@ -38,6 +39,7 @@ look() {
         !($1 in named) && $2 ~ /^axioms|axioms=/ { print $1 ": its check counts axioms: " $2 }
         END { for (line in pin) if (!(line in seen)) print "docs/TRUST.md, and not this run: " line }
     ' "$room/verdicts"
+    grep -q '^rt: ok; handles allowed: none;' "$log" || echo "$log: rt ci does not say 'ok; handles allowed: none'"
     # each crate was proved in this run, with a line that the above has read, or is kept
     listed | while IFS= read -r crate; do
         if grep -q "^rt: $crate proved$" "$log"; then
