@@ -38,7 +38,7 @@ use Rattle.probes.specs.Widths.{widths-none}
 use Rattle.probes.proofs.Promises.{validate-unique, validate-numbers}
 use Rattle.chain.specs.Corners.{OffGrid}
 use Rattle.order.specs.Order.{Before, order}
-use Rattle.order.specs.Listed.{order-sorted, order-once}
+use Rattle.order.specs.Listed.{order-length, order-sorted, order-once}
 use Rattle.stack.specs.FirstFit.{Outcome, outcome, plan_lines, placed, planned}
 use Rattle.stack.specs.Follows.{Follows}
 use Rattle.stack.specs.Eight.{StopsAt}
@@ -187,6 +187,7 @@ pub record DemandTwo (Ts ps : List ℕ) : Type 0 where
   pub verdict : (ss : List ℕ) → length Ts ≡ length ss → ((i : ℕ) → i < length Ts → get_or ss i 0 < get_or Ts i 0) → Packs Ts ps ps ss ↔ Clean Ts ps ss
   -- planning is first fit, in an order that has every probe once and 01's ties
   pub planning : (ss fs : List ℕ) → length Ts ≤ length ss → rows Ts ≤ length fs → (o : Outcome) → Plans Ts ps ss fs o → FirstFit Ts ps ss fs o
+  pub as-many : length (order Ts ps) ≡ length Ts
   pub ties : (k l : ℕ) → k < l → l < length Ts → Before Ts ps (get_or (order Ts ps) k 0) (get_or (order Ts ps) l 0)
   pub every : (i : ℕ) → i < length Ts → (k : ℕ) × (k < length Ts) × (get_or (order Ts ps) k 0 ≡ i) × ((l : ℕ) → l < length Ts → get_or (order Ts ps) l 0 ≡ i → l ≡ k)
   -- starts below their periods turn into rectangles, and these into the same starts
@@ -215,6 +216,7 @@ demand-two Ts ps s = record {
         clean = λ e. rw (widths-none ps) at (plan-clean Ts ps ss fs o p e);
         checked = plan-passes Ts ps ss fs o p;
       };
+  as-many = order-length Ts ps;
   ties = order-sorted Ts ps;
   every = order-once Ts ps;
   rectangles = there_and_back Ts ps s;

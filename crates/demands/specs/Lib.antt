@@ -8,3 +8,4 @@ pub mod Rectangles
 pub mod Busy
 pub mod BookOrder
 pub mod Edges
+pub mod Premises

@@ -11,7 +11,7 @@
 --     holder_of, next_of         the same, computed: one pass over the probes
 -- Edges: clean or not; the empty table answers idle, or no start; after a read's last tick the wire is free.
 -- Assumes nothing.
-use Rattle.std.specs.Prelude.{◌≡◌, ◌⊎◌, Bool, List, [], ◌∷◌, ◌++◌, ℕ, zero, suc, ◌+◌, ◌-◌, ◌%◌, ◌≤◌, ◌<◌, leb, ltb, length, get_or}
+use Rattle.std.specs.Prelude.{◌≡◌, ◌⊎◌, Bool, List, [], ◌∷◌, ◌++◌, ℕ, zero, suc, ◌-◌, ◌%◌, ◌≤◌, ◌<◌, leb, ltb, length, get_or}
 use Rattle.lists.specs.Pick.{pick, both}
 use Rattle.lists.specs.Lowest.{Lowest, lowest}
 use Rattle.lists.specs.Refusals.{Line, whole, First}

@@ -3,7 +3,7 @@
 --     filled f n l          the column l with its first n entries f 0, f 1, .. ; the entries past n stay
 --     Filling f l₀ l i      a loop has written the first i entries of l₀, and no other
 -- Assumes nothing.
-use Rattle.std.specs.Prelude.{◌≡◌, refl, List, [], ◌∷◌, ◌++◌, ℕ, zero, suc, ◌+◌, ◌-◌, ◌≤◌, ◌<◌, length, get_or, set, drop}
+use Rattle.std.specs.Prelude.{◌≡◌, refl, List, [], ◌∷◌, ◌++◌, ℕ, zero, suc, ◌+◌, ◌≤◌, ◌<◌, length, get_or, set, drop}
 use Rattle.std.proofs.Common.{sym, ap, ◌∙◌, append_assoc, add-zero, zero-add, add-one, arith, length-append, length-drop, drop-cons}
 use Rattle.std.proofs.lemmas.List.{set_at}
 

@@ -1,7 +1,7 @@
 -- WHAT `book::read` AND `book::write` PROMISE, in words of specs/ alone: specs/Reading has the promise `Reads`, specs/Writing the promise `Writes`.
 -- Assumes nothing.
 use mathlib.Core.Path.{◌≡◌, refl, sym, ap, ◌∙◌}
-use mathlib.Core.Logic.{◌⊎◌, inl, inr, ⊎_elim}
+use mathlib.Core.Logic.{inl, inr, ⊎_elim}
 use mathlib.Core.List.{List, [], ◌∷◌, ◌++◌}
 use Prim.Native.Nat.{ℕ, ◌≤◌}
 use lib.ListN.{length, take, drop}

@@ -2,7 +2,7 @@
 --     done-rest, ..         what a done reading or writing shows
 --     read-then-write, write-then-read, form-only   the promises of proofs/Promises, from what is computed
 -- Assumes nothing.
-use Rattle.std.specs.Prelude.{◌≡◌, ◌⊎◌, Bool, true, false, List, ◌++◌, ℕ, suc, ◌+◌, ◌-◌, ◌*◌, ◌≤◌, ◌<◌, take}
+use Rattle.std.specs.Prelude.{◌≡◌, Bool, true, false, List, ◌++◌, ℕ, suc, ◌*◌, ◌≤◌, ◌<◌, take}
 use Rattle.std.proofs.Math.Path.{refl, sym}
 use Rattle.std.proofs.Common.{ap, ◌∙◌, inl, inr, ⊎_elim, arith, take_at}
 use Rattle.std.proofs.Math.Decide.{dec_lt, ℕ_discrete}

@@ -2,7 +2,7 @@
 --     write-differ, ..      the ways out
 --     write_meets           write_of meets Writes
 -- Assumes nothing.
-use Rattle.std.specs.Prelude.{◌≡◌, refl, List, ◌++◌, ℕ, ◌+◌, ◌-◌, ◌*◌, ◌≤◌, ◌<◌, length, drop}
+use Rattle.std.specs.Prelude.{◌≡◌, refl, List, ◌++◌, ℕ, ◌+◌, ◌*◌, ◌≤◌, ◌<◌, length, drop}
 use Rattle.std.proofs.Common.{ap, ◌∙◌, arith}
 use Rattle.std.proofs.lemmas.List.Edits.{sets, sets-eq}
 use borrow.Author.Tests.{eq-eqb, ne_eqb, lt-ltb, le-ltb}

@@ -1,13 +1,9 @@
 -- `chained::clashes` meets its contract: each of the first k divides x or is divided by it. Assumes nothing.
 use mathlib.Core.Logic.{⊎_elim, inl, inr}
-use Prim.Native.Nat.{ℕ, ◌≤◌, ◌<◌, ◌-◌}
 use native.Mathlib.Nat.{dvd_iff_mod-eq-zero}
 use native.Mathlib.Omega.{arith}
-use lib.ListN.{get_or}
 use borrow.Author.Count.{below_more}
 use Rattle.lists.specs.Telling.{tells-yes, tells-no}
-use Rattle.probes.specs.Seen.{Chained}
-use borrow.Author.Rules.{rules}
 use Rattle.chained.proofs.clashes.Goals as goal
 use Rattle.chained.proofs.clashes.Goals.{then-x-t-ne0+else-t-x-ne0, else-x-t-ne0}
 
@@ -26,15 +22,14 @@ returns-then-t-x-ne0 c =
     )
 
 pub loop-k-preserved : goal.loop-k-preserved
-loop-k-preserved c =
-    (
-      omega arith,
-      below_more _ _ c.loop-k.invariant.1
+loop-k-preserved c = (
+  omega arith,
+  below_more _ _ c.loop-k.invariant.1
       (elim c.if-x-t-ne0.branch [
-        then-x-t-ne0+else-t-x-ne0 w ↦ inr ((dvd_iff_mod-eq-zero _).1 w.if-t-x-ne0.false)
-      | else-x-t-ne0 w ↦ inl ((dvd_iff_mod-eq-zero _).1 w.if-x-t-ne0.false)
+        | then-x-t-ne0+else-t-x-ne0 w ↦ inr ((dvd_iff_mod-eq-zero _).1 w.if-t-x-ne0.false)
+        | else-x-t-ne0 w ↦ inl ((dvd_iff_mod-eq-zero _).1 w.if-x-t-ne0.false)
       ]),
-    )
+)
 
 pub returns : goal.returns
 returns c = tells-no (λ s. s.2 (c.loop-k.invariant.1 s.0 (omega (arith, s.1))))

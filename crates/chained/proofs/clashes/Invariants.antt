@@ -1,13 +1,7 @@
 -- `chained::clashes` meets its contract: each of the first k divides x or is divided by it. Assumes nothing.
-use mathlib.Core.Logic.{⊎_elim, inl, inr}
 use Prim.Native.Nat.{ℕ, ◌≤◌, ◌<◌, ◌-◌}
-use native.Mathlib.Nat.{dvd_iff_mod-eq-zero}
-use native.Mathlib.Omega.{arith}
 use lib.ListN.{get_or}
-use borrow.Author.Count.{below_more}
-use Rattle.lists.specs.Telling.{tells-yes, tells-no}
 use Rattle.probes.specs.Seen.{Chained}
-use borrow.Author.Rules.{rules}
 use Rattle.chained.proofs.clashes.Given as goal
 
 abbrev pub invariant-loop-k : goal.invariant-loop-k

@@ -1,11 +1,7 @@
 -- `chained::is_seen` meets its contract: none of the first k equals x. Assumes nothing.
 use mathlib.Core.Path.{◌≡◌}
 use Prim.Native.Nat.{ℕ, ◌≤◌, ◌<◌, ◌-◌}
-use native.Mathlib.Omega.{arith}
 use lib.ListN.{get_or}
-use borrow.Author.Count.{below_more}
-use Rattle.lists.specs.Telling.{tells-yes, tells-no}
-use borrow.Author.Rules.{rules}
 use Rattle.chained.proofs.is_seen.Given as goal
 
 abbrev pub invariant-loop-k : goal.invariant-loop-k

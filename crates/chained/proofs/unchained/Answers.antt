@@ -1,14 +1,9 @@
 -- `chained::unchained` meets its contract: the kept periods are the different ones of the probes passed, and stand for every earlier probe. Assumes nothing.
-use mathlib.Core.Path.{◌≡◌, refl}
-use mathlib.Core.Logic.{⊎_elim}
-use Prim.Native.Nat.{◌≤◌, ◌-◌}
+use mathlib.Core.Path.{refl}
 use native.Mathlib.Omega.{arith}
-use lib.ListN.{length, length-set}
-use borrow.Author.Tests.{not-true, not-false}
-use Rattle.lists.specs.Lowest.{Searching, searching-start, searching-next, searching-found, searching-none}
-use Rattle.probes.specs.Chained.{unchained}
-use Rattle.probes.specs.Seen.{Keeping, keeping_start, keeping-positive, keeping-seen, seen_more, keeping-clash, keeping-new, new-room, new-more}
-use borrow.Author.Rules.{rules}
+use lib.ListN.{length-set}
+use Rattle.lists.specs.Lowest.{searching-start, searching-next, searching-found, searching-none}
+use Rattle.probes.specs.Seen.{keeping_start, keeping-positive, keeping-seen, seen_more, keeping-clash, keeping-new, new-room, new-more}
 use Rattle.chained.proofs.unchained.Goals as goal
 use Rattle.chained.proofs.unchained.Goals.{then-not-old+else-clashes, else-not-old}
 
@@ -60,16 +55,16 @@ loop-i-preserved c =
     let l = c.loop-i in
     let range = c.requires in
     elim c.if-not-old.branch [
-      then-not-old+else-clashes w ↦
-        let fresh = c.is_seen-old.ensures.no w.if-not-old.true in
-        let fits = w.clashes.ensures.no w.if-clashes.false in
-        let room = new-room _ _ _ l.i l.invariant.2 fresh fits (λ j h. range j (omega arith)) in
-        rw (w.seen-is, w.n-is)
-        (omega arith, simp length-set l.invariant.1, new-more _ _ _ l.i l.invariant.2 fresh fits (omega arith), searching-next _ _ l.i (omega arith) (keeping-new _ _ _ l.i l.invariant.2 fresh fits) l.invariant.3)
-    | else-not-old w ↦
-        let old = c.is_seen-old.ensures.yes w.if-not-old.false in
-        rw (w.seen-is, w.n-is)
-        (omega arith, l.invariant.1, seen_more _ _ _ l.i l.invariant.2 old, searching-next _ _ l.i (omega arith) (keeping-seen _ _ _ l.i l.invariant.2 old) l.invariant.3)
+      | then-not-old+else-clashes w ↦
+          let fresh = c.is_seen-old.ensures.no w.if-not-old.true in
+          let fits = w.clashes.ensures.no w.if-clashes.false in
+          let room = new-room _ _ _ l.i l.invariant.2 fresh fits (λ j h. range j (omega arith)) in
+          rw (w.seen-is, w.n-is)
+          (omega arith, simp length-set l.invariant.1, new-more _ _ _ l.i l.invariant.2 fresh fits (omega arith), searching-next _ _ l.i (omega arith) (keeping-new _ _ _ l.i l.invariant.2 fresh fits) l.invariant.3)
+      | else-not-old w ↦
+          let old = c.is_seen-old.ensures.yes w.if-not-old.false in
+          rw (w.seen-is, w.n-is)
+          (omega arith, l.invariant.1, seen_more _ _ _ l.i l.invariant.2 old, searching-next _ _ l.i (omega arith) (keeping-seen _ _ _ l.i l.invariant.2 old) l.invariant.3)
     ]
 
 pub returns : goal.returns

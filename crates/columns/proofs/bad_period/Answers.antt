@@ -1,15 +1,11 @@
 -- `columns::bad_period` meets its contract: the places below i were tried and found in range. Assumes nothing.
 use mathlib.Core.Logic.{inl, inr}
 use mathlib.Core.List.{[]}
-use Prim.Native.Nat.{◌-◌}
 use native.Mathlib.Omega.{arith}
-use lib.ListN.{length}
-use Rattle.lists.specs.Lowest.{Searching, searching-start, searching-next, searching-found, searching-none}
+use Rattle.lists.specs.Lowest.{searching-start, searching-next, searching-found, searching-none}
 use Rattle.lists.specs.Telling.{tells-true, tells-false}
 use mathlib.Core.Logic.{⊎_elim}
-use Rattle.probes.specs.Columns.{bad_period}
 use Rattle.probes.specs.Steps.{bad-period-tells}
-use borrow.Author.Rules.{rules}
 use Rattle.columns.proofs.bad_period.Goals as goal
 
 pub loop-i-init : goal.loop-i-init

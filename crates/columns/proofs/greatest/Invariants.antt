@@ -1,10 +1,7 @@
 -- `columns::greatest` meets its contract: m is the greatest of the periods passed, and what is left decides the rest. Assumes nothing.
-use mathlib.Core.Logic.{⊎_elim}
 use Prim.Native.Nat.{◌-◌}
-use native.Mathlib.Omega.{arith}
 use lib.ListN.{length}
-use Rattle.probes.specs.Steps.{Growing, growing-start, growing-next, growing-done}
-use borrow.Author.Rules.{rules}
+use Rattle.probes.specs.Steps.{Growing}
 use Rattle.columns.proofs.greatest.Given as goal
 
 abbrev pub invariant-loop-i : goal.invariant-loop-i

@@ -1,12 +1,8 @@
 -- `columns::late` meets its contract: the places below i were tried, and their starts lie below their periods. Assumes nothing.
-use Prim.Native.Nat.{◌-◌}
 use native.Mathlib.Omega.{arith}
-use lib.ListN.{length}
-use Rattle.lists.specs.Lowest.{Searching, searching-start, searching-next, searching-found, searching-none}
+use Rattle.lists.specs.Lowest.{searching-start, searching-next, searching-found, searching-none}
 use Rattle.lists.specs.Telling.{tells-true, tells-false}
-use Rattle.probes.specs.Columns.{late}
 use Rattle.probes.specs.Steps.{late-tells}
-use borrow.Author.Rules.{rules}
 use Rattle.columns.proofs.late.Goals as goal
 
 pub loop-i-init : goal.loop-i-init

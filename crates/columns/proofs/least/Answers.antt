@@ -1,10 +1,6 @@
 -- `columns::least` meets its contract: w is the least of the periods passed, and what is left decides the rest. Assumes nothing.
-use mathlib.Core.Logic.{⊎_elim}
-use Prim.Native.Nat.{◌-◌}
 use native.Mathlib.Omega.{arith}
-use lib.ListN.{length}
-use Rattle.probes.specs.Steps.{Lessening, lessening-start, lessening-next, lessening-done, shortest-none}
-use borrow.Author.Rules.{rules}
+use Rattle.probes.specs.Steps.{lessening-start, lessening-next, lessening-done, shortest-none}
 use Rattle.columns.proofs.least.Goals as goal
 use Rattle.columns.proofs.least.Goals.{then-t-w, else-t-w}
 

@@ -1,10 +1,7 @@
 -- `columns::least` meets its contract: w is the least of the periods passed, and what is left decides the rest. Assumes nothing.
-use mathlib.Core.Logic.{⊎_elim}
 use Prim.Native.Nat.{◌-◌}
-use native.Mathlib.Omega.{arith}
 use lib.ListN.{length}
-use Rattle.probes.specs.Steps.{Lessening, lessening-start, lessening-next, lessening-done, shortest-none}
-use borrow.Author.Rules.{rules}
+use Rattle.probes.specs.Steps.{Lessening}
 use Rattle.columns.proofs.least.Given as goal
 
 abbrev pub invariant-loop-i : goal.invariant-loop-i

@@ -1,10 +1,7 @@
 -- `digits::decompose` meets its contract. The loop's invariant: the first digits, as many as place says, stand in d, and rest has the others. The measure is what is left of the twelve.
 -- Assumes nothing.
-use borrow.Author.Rules.{rules}
 use native.Mathlib.Omega.{arith}
-use Prim.Native.Nat.{◌-◌}
-use Rattle.chain.specs.Ratios.{most_ratios}
-use Rattle.chain.specs.Passes.{Decomposing, decomposing-next, decomposing-done, positive-at}
+use Rattle.chain.specs.Passes.{decomposing-next, decomposing-done, positive-at}
 use Rattle.digits.proofs.decompose.Goals as goal
 
 pub nonzero_rem-d : goal.nonzero_rem-d

@@ -1,10 +1,7 @@
 -- `digits::reverse` meets its contract. The loop's invariant: the first i places hold the last i of d, from the end. The measure is what is left of the twelve.
 -- Assumes nothing.
-use borrow.Author.Rules.{rules}
 use native.Mathlib.Omega.{arith}
-use Prim.Native.Nat.{◌-◌}
-use Rattle.chain.specs.Ratios.{most_ratios}
-use Rattle.chain.specs.Passes.{Reversing, reversing-start, reversing-next, reversing-done}
+use Rattle.chain.specs.Passes.{reversing-start, reversing-next, reversing-done}
 use Rattle.digits.proofs.reverse.Goals as goal
 
 pub loop-i-init : goal.loop-i-init

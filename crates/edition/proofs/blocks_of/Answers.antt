@@ -2,7 +2,6 @@
 use mathlib.Core.Path.{sym}
 use Rattle.sheets.specs.Layout.{first_edition}
 use Rattle.sheets.specs.LayoutLaws.{blocks-none, blocks_more}
-use borrow.Author.Rules.{rules}
 use Rattle.edition.proofs.blocks_of.Goals as goal
 
 pub returns-then-n-eq0 : goal.returns-then-n-eq0

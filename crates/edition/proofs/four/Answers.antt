@@ -2,7 +2,6 @@
 use Prim.Native.Nat.{◌+◌}
 use native.Mathlib.Omega.{arith}
 use Rattle.sheets.specs.ByteLaws.{word-four}
-use borrow.Author.Rules.{rules}
 use Rattle.edition.proofs.four.Goals as goal
 
 pub overflow_cast-low : goal.overflow_cast-low

@@ -3,7 +3,6 @@ use mathlib.Core.Path.{sym}
 use native.Mathlib.Omega.{arith}
 use Rattle.sheets.specs.Layout.{first_edition}
 use Rattle.sheets.specs.LayoutLaws.{blocks-least, records-full, records-rest}
-use borrow.Author.Rules.{rules}
 use Rattle.edition.proofs.records_of.Goals as goal
 
 pub overflow_add-b : goal.overflow_add-b

@@ -2,7 +2,6 @@
 use Prim.Native.Nat.{◌+◌}
 use native.Mathlib.Omega.{arith}
 use Rattle.sheets.specs.ByteLaws.{word_two}
-use borrow.Author.Rules.{rules}
 use Rattle.edition.proofs.two.Goals as goal
 
 pub overflow_cast-low : goal.overflow_cast-low

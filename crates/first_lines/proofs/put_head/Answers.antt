@@ -1,6 +1,5 @@
 use native.Mathlib.Omega.{arith}
 use Rattle.lines.specs.Laws.{head-put}
-use borrow.Author.Rules.{rules}
 use Rattle.first_lines.proofs.put_head.Goals as goal
 
 pub returns : goal.returns

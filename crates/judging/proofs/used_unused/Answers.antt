@@ -5,7 +5,6 @@ use native.Mathlib.Omega.{arith}
 use Rattle.sheets.specs.Layout.{first_edition}
 use Rattle.sheets.specs.Block.{unused, used_unused}
 use Rattle.sheets.specs.LayoutLaws.{records-most}
-use borrow.Author.Rules.{rules}
 use Rattle.judging.proofs.used_unused.Goals as goal
 
 pub overflow_mul-records : goal.overflow_mul-records

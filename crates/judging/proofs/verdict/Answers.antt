@@ -3,7 +3,6 @@ use mathlib.Core.Path.{sym, ◌∙◌}
 use native.Mathlib.Omega.{arith}
 use Rattle.sheets.specs.Layout.{first_edition}
 use Rattle.sheets.specs.BlockLaws.{field-tested, verdict-21, verdict-22, verdict-23, verdict-0}
-use borrow.Author.Rules.{rules}
 use Rattle.judging.proofs.verdict.Goals as goal
 
 pub returns-then-wrong_sum : goal.returns-then-wrong_sum

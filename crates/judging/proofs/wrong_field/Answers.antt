@@ -4,7 +4,6 @@ use mathlib.Core.Logic.{inl, inr}
 use native.Mathlib.Omega.{arith}
 use Rattle.sheets.specs.Layout.{first_edition}
 use Rattle.sheets.specs.BlockLaws.{field-is-wrong, field-is-right}
-use borrow.Author.Rules.{rules}
 use Rattle.judging.proofs.wrong_field.Goals as goal
 
 pub returns-then-n-gt-PROBES : goal.returns-then-n-gt-PROBES

@@ -4,7 +4,6 @@ use mathlib.Core.Logic.{inl}
 use Rattle.lists.specs.Telling.{tells-true}
 use Rattle.sheets.specs.Block.{wrong_sum}
 use Rattle.sheets.specs.BlockLaws.{wrong-sum-tells, second-sum}
-use borrow.Author.Rules.{rules}
 use Rattle.judging.proofs.wrong_sum.Goals as goal
 
 pub returns-then-four-sum : goal.returns-then-four-sum

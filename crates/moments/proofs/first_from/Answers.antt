@@ -4,7 +4,6 @@ use native.Mathlib.Nat.{mod-lt}
 use native.Mathlib.Omega.{arith}
 use Rattle.moments.specs.Moments.{phase}
 use Rattle.moments.specs.Laws.{candidate-now, candidate-here, candidate-later}
-use borrow.Author.Rules.{rules}
 use Rattle.moments.proofs.first_from.Goals as goal
 
 pub returns-then-tick-start : goal.returns-then-tick-start

@@ -1,7 +1,6 @@
 -- `moments::holds` meets its contract: not before the start, and then by the ticks since. Assumes nothing.
 use native.Mathlib.Omega.{arith}
 use Rattle.moments.specs.Laws.{early-holds, phase-holds}
-use borrow.Author.Rules.{rules}
 use Rattle.moments.proofs.holds.Goals as goal
 
 pub returns-then-tick-start : goal.returns-then-tick-start

@@ -4,7 +4,6 @@ use Prim.Native.Nat.{◌-◌}
 use native.Mathlib.Nat.{mod-lt}
 use native.Mathlib.Omega.{arith}
 use Rattle.moments.specs.Moments.{phase}
-use borrow.Author.Rules.{rules}
 use Rattle.moments.proofs.phase.Goals as goal
 
 pub overflow_cast-result-3 : goal.overflow_cast-result-3

@@ -2,7 +2,6 @@
 use native.Mathlib.Omega.{arith}
 use Rattle.wire.specs.Lag.{lag-lt}
 use Rattle.pairs.specs.Steps.{apart-early, apart-is}
-use borrow.Author.Rules.{rules}
 use Rattle.pairs.proofs.apart.Goals as goal
 
 pub overflow_add-result : goal.overflow_add-result

@@ -1,6 +1,5 @@
 -- `pairs::lag` meets its contract. Assumes nothing.
 use Rattle.pairs.specs.Steps.{lag-is}
-use borrow.Author.Rules.{rules}
 use Rattle.pairs.proofs.lag.Goals as goal
 
 pub returns : goal.returns

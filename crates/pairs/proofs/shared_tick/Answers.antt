@@ -2,7 +2,6 @@
 use native.Mathlib.Omega.{arith}
 use Rattle.wire.specs.Lag.{lag-lt}
 use Rattle.pairs.specs.Steps.{tick-inside, tick-overrun, tick-shorter, tick-second}
-use borrow.Author.Rules.{rules}
 use Rattle.pairs.proofs.shared_tick.Goals as goal
 
 pub returns-then-d-q : goal.returns-then-d-q

@@ -3,7 +3,6 @@ use mathlib.Core.Path.{◌∙◌}
 use native.Mathlib.Omega.{arith}
 use Rattle.pairs.specs.Probes.{passes-ordered}
 use Rattle.pairs.specs.Steps.{by_first, by-second}
-use borrow.Author.Rules.{rules}
 use Rattle.pairs.proofs.tick_at.Goals as goal
 
 pub shared_tick-requires : goal.shared_tick-requires

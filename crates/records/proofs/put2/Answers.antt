@@ -4,7 +4,6 @@ use Prim.Native.Nat.{suc, ◌+◌}
 use native.Mathlib.Omega.{arith}
 use lib.ListN.{length-set}
 use Rattle.sheets.specs.Bytes.{bytes}
-use borrow.Author.Rules.{rules}
 use Rattle.records.proofs.put2.Goals as goal
 
 pub bounds-block-at-2 : goal.bounds-block-at-2

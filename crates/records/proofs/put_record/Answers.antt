@@ -1,6 +1,5 @@
 -- `records::put_record` meets its contract: three runs of stores, each where the one before ended. Assumes nothing.
 use Rattle.sheets.specs.RecordLaws.{record-stored}
-use borrow.Author.Rules.{rules}
 use Rattle.records.proofs.put_record.Goals as goal
 
 pub returns : goal.returns

@@ -1,6 +1,6 @@
 -- `records::put_records` meets its contract: j records are stored, one after another. Assumes nothing.
 use mathlib.Core.Path.{◌≡◌, refl, ap, ◌∙◌}
-use Prim.Native.Nat.{ℕ, ◌+◌, ◌-◌, ◌*◌, ◌≤◌}
+use Prim.Native.Nat.{ℕ, ◌+◌, ◌*◌}
 use native.Mathlib.Omega.{arith}
 use lib.ListN.{length}
 use lib.Seq.{sets, length-sets}
@@ -8,7 +8,6 @@ use Rattle.sheets.specs.Layout.{head_bytes}
 use Rattle.sheets.specs.Runs.{run_from, run_store}
 use Rattle.sheets.specs.Records.{record_at}
 use Rattle.sheets.specs.RecordLaws.{length-record}
-use borrow.Author.Rules.{rules}
 use Rattle.records.proofs.put_records.Goals as goal
 
 pub loop-j-init : goal.loop-j-init

@@ -1,12 +1,9 @@
 -- `sums::all_zero` meets its contract: the bytes passed are zero, so the answer for the rest is the answer. Assumes nothing.
-use mathlib.Core.Path.{◌≡◌, refl, sym, ap, ◌∙◌}
-use Prim.Native.Nat.{ℕ, ◌-◌, ◌≤◌}
-use native.Mathlib.Omega.{arith}
+use mathlib.Core.Path.{◌≡◌}
+use Prim.Native.Nat.{◌-◌, ◌≤◌}
 use lib.ListN.{take, drop}
 use Rattle.sheets.specs.Bytes.{all_zero}
 use Rattle.sheets.specs.Layout.{sum_place}
-use Rattle.sheets.specs.ByteLaws.{zero-next, zero-found, zero-none}
-use borrow.Author.Rules.{rules}
 use Rattle.sums.proofs.all_zero.Given as goal
 
 abbrev pub invariant-loop-at : goal.invariant-loop-at

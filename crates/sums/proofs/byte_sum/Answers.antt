@@ -1,12 +1,11 @@
 -- `sums::byte_sum` meets its contract: the sum so far is that of the bytes below i. Assumes nothing.
 use mathlib.Core.Path.{◌≡◌, refl, ap, ◌∙◌}
-use Prim.Native.Nat.{ℕ, ◌-◌, ◌*◌, ◌≤◌}
+use Prim.Native.Nat.{ℕ}
 use native.Mathlib.Omega.{arith}
 use lib.ListN.{take}
 use Rattle.sheets.specs.Bytes.{byte_sum}
 use Rattle.sheets.specs.Layout.{sum_place}
 use Rattle.sheets.specs.ByteLaws.{sum-next}
-use borrow.Author.Rules.{rules}
 use Rattle.sums.proofs.byte_sum.Goals as goal
 
 pub loop-i-init : goal.loop-i-init

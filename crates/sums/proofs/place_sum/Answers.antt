@@ -1,12 +1,11 @@
 -- `sums::place_sum` meets its contract: the sum so far is that of the places passed. Assumes nothing.
 use mathlib.Core.Path.{◌≡◌, refl, ap, ◌∙◌}
-use Prim.Native.Nat.{ℕ, ◌+◌, ◌-◌, ◌*◌, ◌≤◌}
+use Prim.Native.Nat.{ℕ, ◌+◌, ◌*◌, ◌≤◌}
 use native.Mathlib.Omega.{arith}
 use lib.ListN.{take, get_or}
 use Rattle.sheets.specs.Bytes.{place_sum}
 use Rattle.sheets.specs.Layout.{sum_place}
 use Rattle.sheets.specs.ByteLaws.{place-next, place-part}
-use borrow.Author.Rules.{rules}
 use Rattle.sums.proofs.place_sum.Goals as goal
 
 pub loop-place-init : goal.loop-place-init

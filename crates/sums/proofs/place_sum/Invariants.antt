@@ -1,12 +1,9 @@
 -- `sums::place_sum` meets its contract: the sum so far is that of the places passed. Assumes nothing.
-use mathlib.Core.Path.{◌≡◌, refl, ap, ◌∙◌}
-use Prim.Native.Nat.{ℕ, ◌+◌, ◌-◌, ◌*◌, ◌≤◌}
-use native.Mathlib.Omega.{arith}
-use lib.ListN.{take, get_or}
+use mathlib.Core.Path.{◌≡◌}
+use Prim.Native.Nat.{◌-◌, ◌*◌, ◌≤◌}
+use lib.ListN.{take}
 use Rattle.sheets.specs.Bytes.{place_sum}
 use Rattle.sheets.specs.Layout.{sum_place}
-use Rattle.sheets.specs.ByteLaws.{place-next, place-part}
-use borrow.Author.Rules.{rules}
 use Rattle.sums.proofs.place_sum.Given as goal
 
 abbrev pub invariant-loop-place : goal.invariant-loop-place

@@ -5,10 +5,8 @@ use native.Mathlib.Omega.{arith}
 use lib.ListN.{length}
 use Rattle.lists.specs.Lowest.{lowest}
 use Rattle.table.specs.declared.Table.{Table}
-use Rattle.probes.specs.Table.{shortest, rows}
 use Rattle.probes.specs.Verdict.{bad_period, unchained}
 use Rattle.probes.specs.Ways.{in-range, bad-length-is, way-differ, way-many, way-period, way-length, way-chain, way-rows, way-done}
-use borrow.Author.Rules.{rules}
 use Rattle.table.proofs.judge.Goals as goal
 
 pub returns-then-n-lengths : goal.returns-then-n-lengths

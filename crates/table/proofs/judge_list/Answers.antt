@@ -3,7 +3,6 @@ use mathlib.Core.Path.{◌∙◌}
 use native.Mathlib.Omega.{arith}
 use Rattle.probes.specs.Laws.{sound-gives}
 use Rattle.probes.specs.Composing.{list_differ, list-refused, list-late, list_done, zero-sound}
-use borrow.Author.Rules.{rules}
 use Rattle.table.proofs.judge_list.Goals as goal
 
 pub returns-then-n-starts : goal.returns-then-n-starts

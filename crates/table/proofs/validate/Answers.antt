@@ -1,6 +1,5 @@
 -- `table::validate` meets its promise: it answers what the judge answers. Assumes nothing.
 use Rattle.probes.specs.Laws.{verdict-meets}
-use borrow.Author.Rules.{rules}
 use Rattle.table.proofs.validate.Goals as goal
 
 pub returns : goal.returns

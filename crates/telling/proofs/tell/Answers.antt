@@ -1,5 +1,4 @@
 use mathlib.Core.Path.{refl}
-use borrow.Author.Rules.{rules}
 use Rattle.telling.specs.Laws.{told}
 use Rattle.telling.proofs.tell.Goals as goal
 

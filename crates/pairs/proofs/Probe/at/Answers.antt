@@ -1,7 +1,6 @@
 -- `pairs::Probe::at` meets its contract: the three columns are of one length. Assumes nothing.
 use native.Mathlib.Omega.{arith}
 use Rattle.probes.specs.Laws.{sound-gives}
-use borrow.Author.Rules.{rules}
 use Rattle.pairs.proofs.Probe.at.Goals as goal
 
 pub bounds-lengths-i : goal.bounds-lengths-i

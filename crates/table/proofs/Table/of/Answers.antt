@@ -1,5 +1,4 @@
 use Rattle.table.specs.Three.{three-none, three-some}
-use borrow.Author.Rules.{rules}
 use Rattle.table.proofs.Table.of.Goals as goal
 
 pub returns-then-w-eq0 : goal.returns-then-w-eq0
