@@ -12,10 +12,10 @@ plan: build
 	@bin/plan <examples/pasteuriser.book
 
 build: check
-	@mkdir -p bin
+	@mkdir -p bin target
+	@sh tests/build plan check_list masters >target/build.log 2>&1 || { cat target/build.log; exit 1; }
 	@cp target/bin/plan bin/plan
 	@cp target/bin/check_list bin/check
-	@rt staticlib masters >/dev/null
 
 test:
 	@.ci/run
@@ -25,10 +25,10 @@ test-rest:
 	@sh tests/all
 
 check:
-	@rt check
+	@rt all check
 
 fmt:
-	@rt fmt
+	@for crate in crates/*/; do (cd "$$crate" && rt fmt) || exit 1; done
 
 bench:
 	@sh tests/made
@@ -45,8 +45,10 @@ edits:
 
 # docs/SIZES.md, from the sources and the last run of the gate
 sizes:
+	@mkdir -p target
 	@sh tests/sizes >target/sizes && cp target/sizes docs/SIZES.md
 
 # docs/NAMES.md: where each name of docs/PROMISES.md stands
 names:
+	@mkdir -p target
 	@sh tests/gate/where.sh page >target/names && cp target/names docs/NAMES.md

@@ -7,7 +7,7 @@ look() {
     listed >"$room/crates"
     sources | while IFS= read -r file; do sed -n "s,^\(pub \)*\(struct\|enum\) \([A-Za-z0-9_]*\).*,$(echo "$file" | cut -d/ -f2)::\3,p" "$file"; done >"$room/types"
     theory | sed 's,^crates/,,; s,\.antt$,,' >"$room/modules"
-    find crates docs tests reference examples include -type f 2>/dev/null >"$room/files" || :
+    find crates docs tests reference examples include -type d -name out -prune -o -type f -print 2>/dev/null >"$room/files" || :
     for page in README.md docs/*.md; do
         [ "$page" != docs/PROMISES.md ] || continue
         awk -v functions="$room/functions" -v names="$room/names" -v crates="$room/crates" -v types="$room/types" -v modules="$room/modules" -v files="$room/files" '

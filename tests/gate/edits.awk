@@ -1,11 +1,10 @@
-# Of a log of rt ci: a row of docs/EDITS.md for each must-fail edit that was refused, with its witness and the file of the first error.
-/^rt: must-fail [a-z_0-9]+\/[A-Za-z_0-9]+: refused, as it must be \(first at / {
+# Of a log of rt ci: a row of docs/EDITS.md for each must-fail edit that was refused at a fact, with its witness and the file of that fact.
+/^rt: must-fail [a-z_0-9]+\/[A-Za-z_0-9]+\.edit: refused, as it must be: (note: )?[^ :]+:[0-9]+:[0-9]+: / {
     name = $3
-    sub(/:$/, "", name)
+    sub(/\.edit:$/, "", name)
     at = $0
-    sub(/.*\(first at /, "", at)
-    sub(/;.*/, "", at)
-    sub(/:[0-9]+:[0-9]+$/, "", at)
+    sub(/.*: refused, as it must be: (note: )?(\.\/)?/, "", at)
+    sub(/:.*/, "", at)
     crate = name
     sub(/\/.*/, "", crate)
     label = name

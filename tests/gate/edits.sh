@@ -7,6 +7,6 @@ look() {
     awk -f "$gate"/edits.awk "$log" | sort >"$room/run"
     grep '^| `' docs/EDITS.md | sort >"$room/page"
     diff "$room/page" "$room/run" | sed -n 's/^< /docs\/EDITS.md, and not this run: /p; s/^> /this run, and not docs\/EDITS.md: /p'
-    find crates -path '*/must-fail/*.edit' | wc -l | awk -v rows="$(wc -l <"$room/run")" '$1 != rows { print "there are " $1 " edits, and this run refused " rows }'
+    find crates/*/must-fail -name '*.edit' | wc -l | awk -v rows="$(wc -l <"$room/run")" '$1 != rows { print "there are " $1 " edits, and this run refused " rows }'
 }
 hold "edits: docs/EDITS.md has each must-fail edit with its witness and where it is refused"

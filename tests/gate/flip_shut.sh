@@ -12,11 +12,11 @@ look() {
         esac
         awk '
             { sub(/(^|[ \t])(--|\/\/).*/, "") }
-            FILENAME ~ /^crates\/chain\// || /Rattle·chain/ { near = 1 }
+            FILENAME ~ /^crates\/chain\// || /Rattle\.chain/ { near = 1 }
             /(^|[^A-Za-z0-9_])Formula([^A-Za-z0-9_]|$)/ || /Flip\.Steps/ { if (near) print FILENAME ":" FNR ": it names a module of chain that opens the flip" }
         ' "$file"
     done <"$room/all"
-    find crates/chain -name '*.antt' | sort >"$room/chain"
+    grep '^crates/chain/' "$room/all" >"$room/chain"
     for name in flip unflip; do
         shut=0
         while IFS= read -r file; do

@@ -15,24 +15,17 @@ function value(s,    n, k) {
     line = $0
     gsub(/b?"([^"\\]|\\.)*"/, "", line)
     gsub(/b'(\\.|[^'\\])'/, "", line)
-    # a contract's text may run over lines
-    out = ""
-    while (line != "") {
-        if (inside) {
-            at = index(line, "⌝")
-            if (!at) { line = ""; break }
-            line = substr(line, at + length("⌝"))
-            inside = 0
-        } else {
-            at = index(line, "⌜")
-            if (!at) { out = out line; break }
-            out = out substr(line, 1, at - 1) " "
-            line = substr(line, at + length("⌜"))
-            inside = 1
-        }
-    }
-    line = out
     sub(/\/\/.*/, "", line)
+    # a contract's text, and a ghost item's, is all between its braces, and may run over lines
+    if (!deep && match(line, /^[ \t]*(requires|ensures|ghost [a-z_0-9]+:)([ \t]+[a-z_0-9]+)?[ \t]*\{/)) { line = substr(line, RLENGTH); starts = 1 } else starts = 0
+    if (deep || starts) {
+        for (at = 1; at <= length(line); at++) {
+            c = substr(line, at, 1)
+            if (c == "{") deep++
+            else if (c == "}" && --deep == 0) break
+        }
+        line = substr(line, at + 1)
+    }
     if (line ~ /^impl /) { type = line; sub(/^impl +/, "", type); sub(/[^A-Za-z0-9_].*/, "", type) }
     if (line ~ /^}/) type = ""
     if (type != "" && match(line, /^ +(pub )?const [A-Z0-9_]+: [a-z0-9]+ = [0-9][0-9a-zA-Z_]*;/)) {

@@ -1,20 +1,23 @@
 #!/bin/sh
 # Each must-fail edit has a witness, and was refused at a fact: not because its text is not well formed or the proof file no longer fits.
-# rt ci leaves what the prover said of the edit crates/C/must-fail/L.edit in target/must-fail/C/L/.log.
+# rt ci says one line of each edit, with the beginning of the prover's first error; an error of a proof file that misses a name which the edit took away is passed
+# over there, so of an edit with such an error and one more, this test sees the second.
 # Each public call F has two edits or more that bear its name, F_*.edit, in the crate where it stands or in one that this crate reaches (its promise, its steps); one of them is of src/.
 . "$(dirname "$0")/common"
+log=target/ci.log
 
 edits() {
-    find crates -path 'crates/*/must-fail/*' -name '*.edit' | sort >"$room/edits"
+    find crates/*/must-fail -name '*.edit' | sort >"$room/edits"
+    [ -f "$log" ] || echo "there is no $log; .ci/run has not run"
     while IFS= read -r edit; do
         crate=${edit#crates/}
         crate=${crate%%/*}
         label=$(basename "$edit" .edit)
-        log=target/must-fail/$crate/$label/.log
         head -n 1 "$edit" | grep -q '^Witness: .' || echo "$edit:1: the first line is not 'Witness: input, right answer, wrong answer'"
-        [ -f "$log" ] || { echo "$edit: there is no $log; rt ci (or rt must-fail) has not tried it"; continue; }
-        [ -z "$(find "$edit" -newer "$log")" ] || { echo "$edit: it is newer than $log; try it again by rt ci"; continue; }
-        awk -v edit="$edit" -v copy="target/must-fail/$crate/$label/" -f "$gate"/first_error.awk "$edit" "$log"
+        [ -f "$log" ] || continue
+        [ -z "$(find "$edit" -newer "$log")" ] || { echo "$edit: it is newer than $log; try it again by .ci/run"; continue; }
+        grep -F "rt: must-fail $crate/$label.edit: " "$log" >"$room/said" || { echo "$edit: $log says nothing of it"; continue; }
+        awk -v edit="$edit" -v crate="crates/$crate" -f "$gate"/first_error.awk "$edit" "$room/said"
     done <"$room/edits"
 }
 
@@ -33,7 +36,7 @@ calls() {
             for (k = 1; k <= n; k++) reach(below[k])
         }
         BEGIN {
-            while ((getline line < "crates.txt") > 0) { sub(/#.*/, "", line); at = index(line, ":"); if (at) cites[substr(line, 1, at - 1)] = substr(line, at + 1) }
+            while ((getline line < "crates.txt") > 0) { sub(/#.*/, "", line); at = index(line, ":"); if (!at) continue; name = substr(line, 1, at - 1); sub(/[ \t].*/, "", name); cites[name] = substr(line, at + 1) }
             while ((getline line < functions) > 0) { split(line, f, "|"); home[f[1] " " f[2]] = f[10] }
             while ((getline line < calls) > 0) {
                 split(line, f, " ")

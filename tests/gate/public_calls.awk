@@ -12,14 +12,12 @@ BEGIN {
 }
 FNR == 1 { part++ }
 function wrong(why) { print FILENAME ":" FNR ": " why }
-# One promise: λ r. ⌜ Name arguments ⌝, with no connective outside brackets.
+# One promise: Name arguments, with no connective outside brackets.
 function promise(call,    s, depth, k, c, out, name, of) {
     if (ensures[call] != 1) return "has " ensures[call] " ensures, and needs one"
     s = said[call]
-    if (!match(s, /⌜/)) return "has an ensures with no fact"
-    s = substr(s, RSTART + length("⌜"))
-    sub(/⌝.*/, "", s)
     sub(/^ +/, "", s)
+    if (s == "") return "has an ensures with no fact"
     for (k = 1; k <= length(s); k++) {
         c = substr(s, k, 1)
         if (c == "(") depth++
@@ -29,7 +27,7 @@ function promise(call,    s, depth, k, c, out, name, of) {
     name = s
     sub(/[ (].*/, "", name)
     if (name !~ /^[A-Z]/) return "has an ensures that does not begin with a promise's name"
-    if (out ~ /×|⊎|→|↔|≡|≢|≤|<|∧|∨/) return "has an ensures that says more than one promise"
+    if (out ~ /×|⊎|→|↔|≡|≢|≤|<|≥|>|∧|∨|==|λ|¬/) return "has an ensures that says more than one promise"
     if (!((home[call] "|" name) in from)) return "promises " name ", which no `ghost use` of " home[call] " brings"
     of = from[home[call] "|" name]
     if (!((of "/" name) in known)) return "promises " name ", which is no public name of crates/" of "/specs"

@@ -1,5 +1,5 @@
 #!/bin/sh
-# Document 01's bench sheet through the compiled calls of the archive of trial, against the lines in bench_sheet.txt.
+# Document 01's bench sheet through the compiled calls of the archive of trial_c, against the lines in bench_sheet.txt.
 . "$(dirname "$0")/../common"
 what="bench sheet: the compiled calls answer and write each case as document 01 has it"
 

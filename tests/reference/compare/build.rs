@@ -1,4 +1,4 @@
-//! Links the archives of trial, trial_book and masters, which `rt staticlib` writes.
+//! Links the archives of trial_c (libtrial.a), trial_book and masters, which tests/made writes.
 
 use std::path::Path;
 

@@ -1,4 +1,4 @@
-//! The exports of `trial`, `trial_book` and `masters` as safe functions: each slice crosses as its address and its length.
+//! The exports of `trial_c`, `trial_book` and `masters` as safe functions: each slice crosses as its address and its length.
 
 use reference::answer::Answer;
 
