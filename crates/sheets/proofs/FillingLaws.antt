@@ -18,7 +18,6 @@ use Rattle.sheets.specs.Layout.{first_edition, block_bytes, head_bytes, sum_plac
 use Rattle.sheets.specs.Runs.{run_from, length_run, sets-on}
 use Rattle.sheets.proofs.LayoutLaws.{records-most}
 use Rattle.sheets.specs.Filling.{record_at, head_of, body_of, sums_of, block_of}
-
 pub use Rattle.sheets.specs.RecordLaws.{length-record}
 
 pub length-head : (n b : ℕ) → length (head_of first_edition n b) ≡ head_bytes

@@ -56,13 +56,7 @@ pub fn trial_check(periods: &[u32], lengths: &[u32], starts: &[u32], out: &mut [
     tell(checker::check(periods, lengths, starts), out);
 }
 
-pub fn trial_holder(
-    periods: &[u32],
-    lengths: &[u32],
-    starts: &[u32],
-    tick: u64,
-    out: &mut [u32],
-) {
+pub fn trial_holder(periods: &[u32], lengths: &[u32], starts: &[u32], tick: u64, out: &mut [u32]) {
     let held = timetable::holder(periods, lengths, starts, tick);
     tell(held.answer, out);
 }

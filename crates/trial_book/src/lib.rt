@@ -1,7 +1,6 @@
 // Every public call on a book's bytes as an export on slices, for tests alone. The answer goes into `out` as in trial.
 #![tactic(auto)]
 
-
 #[unsafe(no_mangle)]
 pub extern "C" fn trial_read(
     bytes: &[u8],

@@ -55,8 +55,8 @@ loop-k-preserved c =
       omega arith,
       omega arith,
       elim c.if-x-at.branch [
-        then-x-at w ↦ turn-sooner Ts ss t l.index l.at l.k _ _ _ (omega arith) l.invariant.2 c.first_from-x.ensures w.if-x-at.true w.index-is w.at-is
-      | else-x-at w ↦ turn-kept Ts ss t l.index l.at l.k _ _ _ (omega arith) l.invariant.2 c.first_from-x.ensures w.if-x-at.false w.index-is w.at-is
+        | then-x-at w ↦ turn-sooner Ts ss t l.index l.at l.k _ _ _ (omega arith) l.invariant.2 c.first_from-x.ensures w.if-x-at.true w.index-is w.at-is
+        | else-x-at w ↦ turn-kept Ts ss t l.index l.at l.k _ _ _ (omega arith) l.invariant.2 c.first_from-x.ensures w.if-x-at.false w.index-is w.at-is
       ],
     )
 
