@@ -1,19 +1,19 @@
 #!/bin/sh
 # Planner and checker know the flip by its laws alone: it is shut. Of the modules that open it, chain's Formula is for bench_sheet and demands, and
-# chain's Flip.Steps for the proofs of the two functions of flipping that compute it.
+# chain's FlipSteps for the proofs of the two functions of flipping that compute it.
 . "$(dirname "$0")/common"
 look() {
     [ -d crates/chain ] || { echo "there is no crate chain"; return 0; }
     { theory; sources; } >"$room/all"
     while IFS= read -r file; do
         case $file in
-        crates/bench_sheet/* | crates/demands/* | crates/chain/specs/Flip.antt | crates/chain/specs/Flip/*) continue ;;
+        crates/bench_sheet/* | crates/demands/* | crates/chain/specs/Flip.antt | crates/chain/specs/Flip/* | crates/chain/proofs/Flip* | crates/chain/proofs/Lib.antt) continue ;;
         crates/flipping/proofs/Chain/flip/* | crates/flipping/proofs/Chain/unflip/*) continue ;;
         esac
         awk '
             { sub(/(^|[ \t])(--|\/\/).*/, "") }
             FILENAME ~ /^crates\/chain\// || /Rattle\.chain/ { near = 1 }
-            /(^|[^A-Za-z0-9_])Formula([^A-Za-z0-9_]|$)/ || /Flip\.Steps/ { if (near) print FILENAME ":" FNR ": it names a module of chain that opens the flip" }
+            /(^|[^A-Za-z0-9_])(Flip)?Formula([^A-Za-z0-9_]|$)/ || /FlipSteps/ { if (near) print FILENAME ":" FNR ": it names a module of chain that opens the flip" }
         ' "$file"
     done <"$room/all"
     grep '^crates/chain/' "$room/all" >"$room/chain"
