@@ -46,7 +46,7 @@ edits:
 # docs/SIZES.md, from the sources and the last run of the gate
 sizes:
 	@mkdir -p target
-	@sh tests/sizes >target/sizes && cp target/sizes docs/SIZES.md
+	@sh tests/gate/sizes >target/sizes && cp target/sizes docs/SIZES.md
 
 # docs/NAMES.md: where each name of docs/PROMISES.md stands
 names:

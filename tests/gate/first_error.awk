@@ -9,7 +9,7 @@ function make(old, new,    path, row, line, at) {
         at = index(text[path, row], old)
         if (!at) continue
         text[path, row] = substr(text[path, row], 1, at - 1) new substr(text[path, row], at + length(old))
-        if (file ~ /^specs\//) changed[file ":" row] = 1
+        if (file ~ /^(specs|proofs)\//) changed[file ":" row] = 1
     }
 }
 FNR == 1 { part++ }

@@ -7,7 +7,7 @@ look() {
     { theory; sources; } >"$room/all"
     while IFS= read -r file; do
         case $file in
-        crates/bench_sheet/* | crates/demands/* | crates/chain/specs/Flip.antt | crates/chain/specs/Flip/* | crates/chain/proofs/Flip* | crates/chain/proofs/Lib.antt) continue ;;
+        crates/bench_sheet/* | crates/demands/* | crates/chain/specs/Flip.antt | crates/chain/specs/Flip/* | crates/chain/proofs/FlipLaws.antt | crates/chain/proofs/FlipSteps.antt | crates/chain/proofs/FlipFormula.antt | crates/chain/proofs/Lib.antt) continue ;;
         crates/flipping/proofs/Chain/flip/* | crates/flipping/proofs/Chain/unflip/*) continue ;;
         esac
         awk '

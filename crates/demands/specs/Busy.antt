@@ -6,7 +6,7 @@ use Rattle.std.specs.Prelude.{◌≡◌, List, ℕ, ◌*◌, ◌≤◌, ◌<◌,
 use Rattle.std.proofs.Common.{sym, ap, ◌∙◌, mul_comm, arith}
 use Rattle.lists.specs.Sums.{sum_below, sum_below-same}
 use Rattle.wire.specs.Window.{held_in}
-use Rattle.wire.proofs.Window.{windows}
+use Rattle.wire.proofs.Windows.{windows}
 use Rattle.probes.specs.Table.{Sound, longest, height}
 use Rattle.probes.proofs.Laws.{sound-gives}
 use Rattle.probes.specs.Extremes.{shortest-least}

@@ -1,4 +1,4 @@
--- THE ROUND TRIPS, of what is computed. specs/ReadThenWrite and specs/WriteThenRead have the bytes and the columns.
+-- THE ROUND TRIPS, of what is computed. specs/ReadThenWrite and proofs/WriteThenRead have the bytes and the columns.
 --     done-rest, ..         what a done reading or writing shows
 --     read-then-write, write-then-read, form-only   the promises of proofs/Promises, from what is computed
 -- Assumes nothing.

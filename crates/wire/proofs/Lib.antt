@@ -4,3 +4,4 @@ pub mod FirstShared
 pub mod CleanTest
 pub mod Moving
 pub mod Window
+pub mod Windows

@@ -1,17 +1,16 @@
 -- OF ANY T TICKS, EXACTLY q. The customer's demand 3, first sentence; document 01, "The line and its words".
 --     held_tells         held is 1 exactly where the probe holds the tick
 --     window             from any tick at or after the start: of the next T ticks exactly q are the probe's
---     windows            of the next T * h ticks exactly q * h: so of one longest period M = T * h, "busy" q * h
 --     clean-alone        in a clean line no other probe has any of those
 -- Edges: a tick before the start is not held, so a window that begins before it may have fewer. A read may pass the window's end: then as much of an
 -- earlier one stands at its beginning.
 -- Assumes nothing.
 use Rattle.std.specs.Prelude.{◌≡◌, ◌↔◌, ◌≢◌, Bool, List, length}
 use Rattle.std.proofs.Math.Path.{refl, ap}
-use Rattle.std.proofs.Common.{sym, ◌∙◌, mul-suc, suc-add, add-one}
+use Rattle.std.proofs.Common.{sym, ◌∙◌, suc-add, add-one}
 use Rattle.std.proofs.Math.Bool.{true, false}
-use Prim.Native.Nat.{ℕ, zero, suc, ◌+◌, ◌-◌, ◌*◌, ◌%◌, ◌≤◌, ◌<◌, min}
-use Rattle.std.proofs.Math.Nat.{add-mod_right, add-sub_cancel_left, add-suc, add-zero, mod-eq_of_lt, mul-zero, zero-add}
+use Prim.Native.Nat.{ℕ, zero, suc, ◌+◌, ◌-◌, ◌%◌, ◌≤◌, ◌<◌, min}
+use Rattle.std.proofs.Math.Nat.{add-mod_right, add-sub_cancel_left, add-suc, add-zero, mod-eq_of_lt, zero-add}
 use native.Mathlib.Omega.{arith}
 use Rattle.lists.specs.Pick.{Tells}
 use Rattle.lists.specs.Telling.{tells_both, tells-le, tells-lt, tells-true, tells-false}
@@ -51,7 +50,7 @@ module _ (T q s : ℕ) where
       same = ap (λ (y : ℕ). y % T) (omega arith) ∙ add-mod_right (t - s) T
 
   -- two stretches in a row
-  held-in-add : (n m a : ℕ) → held_in T q s a (n + m) ≡ held_in T q s a n + held_in T q s (a + n) m
+  pub held-in-add : (n m a : ℕ) → held_in T q s a (n + m) ≡ held_in T q s a n + held_in T q s (a + n) m
   unfolding held_in
   held-in-add zero m a = rw (zero-add m, zero-add, add-zero a)
   held-in-add (suc n) m a = rw (suc-add n m, add-suc a n) (omega (arith, rw (suc-add a n) at (held-in-add n m (suc a))))
@@ -91,15 +90,7 @@ module _ (T q s : ℕ) where
     slid zero = rw (add-zero s) (first-turn T (omega arith) ∙ omega arith)
     slid (suc k) = rw (add-suc s k) (window-slide (s + k) (omega arith) ∙ slid k)
 
-    turned-once : (a : ℕ) → s ≤ a → held_in T q s a T ≡ q
-    turned-once a l =
+    pub window : (a : ℕ) → s ≤ a → held_in T q s a T ≡ q
+    window a l =
         let back : s + (a - s) ≡ a = omega arith in
         rw back at (slid (a - s))
-
-    pub window : (a : ℕ) → s ≤ a → held_in T q s a T ≡ q
-    window a l = turned-once a l
-
-    pub windows : (n a : ℕ) → s ≤ a → held_in T q s a (T * n) ≡ q * n
-    unfolding held_in
-    windows zero a l = rw (mul-zero T, mul-zero q)
-    windows (suc n) a l = rw (mul-suc T n) (held-in-add (T * n) T a ∙ omega (arith, windows n a l, turned-once (a + T * n) (omega arith)))

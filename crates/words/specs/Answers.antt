@@ -3,7 +3,7 @@
 --     refused k i       number k with index i; i is 0 where the table of 01 has no index
 --     pair k i j t      number k with the probes i and j and the tick t
 --     mark              4,294,967,295: the start of a probe that has none, the index of no probe
--- Edges: no start below a permitted period equals the mark (table, specs/Laws).
+-- Edges: no start below a permitted period equals the mark (probes, proofs/Laws).
 -- Assumes nothing.
 use Rattle.std.specs.Prelude.{ℕ}
 use Rattle.words.specs.declared.Answer.{Answer}

@@ -1,4 +1,4 @@
--- `table::judge_list` meets its contract: the ways out of crate probes, specs/Composing. Assumes nothing.
+-- `table::judge_list` meets its contract: the ways out of crate probes, proofs/Composing. Assumes nothing.
 use mathlib.Core.Path.{◌∙◌}
 use native.Mathlib.Omega.{arith}
 use Rattle.probes.proofs.Laws.{sound-gives}

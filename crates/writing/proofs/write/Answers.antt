@@ -1,4 +1,4 @@
--- `book::write` meets its contract: the ways out of crate volumes, specs/WriteLaws, and the blocks stored. Assumes nothing.
+-- `book::write` meets its contract: the ways out of crate volumes, proofs/WriteLaws, and the blocks stored. Assumes nothing.
 use mathlib.Core.Path.{ap, ◌∙◌}
 use native.Mathlib.Omega.{arith}
 use lib.ListN.{length}
