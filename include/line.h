@@ -13,9 +13,9 @@
  *
  *     cc -Iinclude master.c target/staticlib/libmasters.a
  *
- * The archive is for x86-64 alone, with the System V calling convention, as on Linux: the stack is aligned
- * to 16 bytes at a call, and SSE2 registers are used, which an interrupt that calls these functions must
- * save. Of the C library the archive needs memset and nothing else.
+ * The archive is for x86-64 alone, from x86-64-v2 on (with SSE4.2 and POPCNT), with the System V calling
+ * convention, as on Linux: the stack is aligned to 16 bytes at a call, and SSE registers are used, which an
+ * interrupt that calls these functions must save. Of the C library the archive needs memset and nothing else.
  *
  *
  * THE ARGUMENTS
