@@ -1,5 +1,4 @@
--- STARTS AND CORNERS CONVERT WITHOUT LOSS. Document 01, "Slots and sub-bins": "The way back is exact for every corner that 18 doesn't refuse."
--- Of a harmonic table, and of probe i of it; T is its period.
+-- What follows from the definitions of specs/CornerLaws.
 --     corner-on-grid            the corner of a start below T is on the grid
 --     start-of-corner           and the way back gives the start
 --     start-below               the start of a corner on the grid is below T

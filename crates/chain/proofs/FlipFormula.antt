@@ -1,9 +1,7 @@
--- THE FLIP AS DOCUMENT 01 WRITES IT. "Slots and sub-bins": "Slot v is written in digits, least first: v = d_1 + d_2 b_1 + d_3 b_1 b_2 + .., with each digit d_i below b_i.
--- Its flip is j = d_k + d_(k-1) b_k + .. + d_1 (b_2 .. b_k)." Only bench_sheet and demands use this page; all other crates know the flip by proofs/FlipLaws.
+-- What follows from the definitions of specs/Flip/Formula.
 --     slot-digits           every slot below the product is such a sum, of its digits
 --     flip-formula          the flip of a slot with the digits ds is the other sum
 --     flip-formula-level    and so it is where ratios es of longer periods follow
--- Edges: at k = 0 both sums are 0. Digits and ratios are counted from 0 here, from 1 in 01.
 -- Assumes nothing.
 use Rattle.std.specs.Prelude.{◌≡◌, refl, List, [], ◌∷◌, ◌++◌, ℕ, zero, suc, ◌+◌, ◌*◌, ◌<◌, length, take, drop, get_or}
 use Rattle.std.proofs.Common.{sym, ap, ◌∙◌, mul-one, arith}

@@ -1,4 +1,4 @@
--- WHAT THE FLIP ASKS OF ITS CALLER. Document 01, "Slots and sub-bins": "The flip and its inverse are called by our own layers only, with numbers in range".
+-- What follows from the definitions of specs/Slotted.
 --     chain-slotted     the chain of a harmonic table and the slots of one of its probes are so
 --     chain-flip, chain-unflip      what the functions then give, over the table's own ratios
 -- Assumes nothing.

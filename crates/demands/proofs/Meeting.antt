@@ -1,4 +1,4 @@
--- PASSING IS BEING CLEAN, AND BEING CLEAN IS THE PUBLISHED CONDITION. Document 01, "Meeting on the wire"; document 004, Lemma 1.
+-- What follows from the definitions of specs/Meeting.
 --     clean-published           a list over a sound table is clean exactly when it is so
 --     answer-clean              where each start lies below its period, the checker's answer is 0 exactly when the list is clean
 -- Assumes nothing.

@@ -1,4 +1,4 @@
--- COMPOSING JUDGES. A call that asks the judge first, and goes on only where the answer is 0, answers the first of all the lines.
+-- What follows from the definitions of specs/Composing.
 --     compose-done          where the checks so far answer 0, all that is left to say is the rest
 --     compose-refused       where they refuse, the refusal is the answer, with whatever columns
 --     list-find             the checks of a list find what its lines ask for

@@ -1,4 +1,4 @@
--- WHAT LATER LAYERS MAY USE OF A TABLE.
+-- What follows from the definitions of specs/Laws.
 --     verdict-meets           what validation computes is what the lines ask for
 --     passes-sound, sound-passes   0 exactly when Sound
 --     sound-gives             what Sound gives: each period in range, each length from 1 to w, of two periods the smaller divides the larger, H at most 4,096

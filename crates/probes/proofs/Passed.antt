@@ -1,11 +1,10 @@
--- WHAT A JUDGE THAT ANSWERS 0 GIVES. Every call asks a judge first; here is, once, what its 0 says.
+-- What follows from the definitions of specs/Passed.
 --     silent-if                 checks that answer 0 found nothing: none of their lines applies
 --     silents-left, ..          lines one after another
 --     sound-with                whatever columns number 1 counts, the table among them is sound
 --     silent-passes, passes-silent   it passes exactly when none of the lines 1 to 6 and 9 applies
 --     sound-silent              none of 1 to 6 applies to a list of as many starts over a sound table
 --     zero-passes               number 0 of the judge of a list says that it passes
--- Edges: the empty list passes.
 -- Assumes nothing.
 use Rattle.std.specs.Prelude.{◌≡◌, refl, ◌≢◌, Bool, true, false, List, [], ◌∷◌, ◌++◌, ℕ, ◌≤◌, ◌<◌, ltb, length, get_or}
 use Rattle.std.proofs.Common.{inl, arith, ltb-false}

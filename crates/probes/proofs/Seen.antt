@@ -1,6 +1,5 @@
--- NUMBER 5, FAST. Every period is held against the different periods seen so far and not against every earlier probe.
+-- What follows from the definitions of specs/Seen.
 --     Keeping Ts seen n i  the kept ones are the different periods of the first i probes, and of two one divides the other
--- The law that makes this the same: `keeping-seen`, `keeping-clash`, `keeping-new` give the test of number 5 over every earlier probe.
 -- Assumes nothing.
 use Rattle.std.specs.Prelude.{◌≡◌, refl, ◌≢◌, Bool, true, false, not, List, ℕ, ◌+◌, ◌*◌, ◌^◌, ◌%◌, ◌≤◌, ◌<◌, eqb, length, get_or, set}
 use Rattle.std.proofs.Common.{sym, ◌∙◌, inl, inr, add-one, arith, get_or-set_same, get_or-set_other, eq-eqb, ne_eqb}

@@ -1,4 +1,4 @@
--- LAWS OF THE BLOCKS: the search of the first bad block, and what 20 leaves of the size.
+-- What follows from the definitions of specs/BlocksLaws.
 --     Searched L bs b       what a loop knows that has passed the blocks below b
 --     judged-right, right-judged   none is bad exactly where every block's verdict is 0
 --     judged-n              then the answer is n

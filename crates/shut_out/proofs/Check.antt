@@ -1,4 +1,4 @@
--- ANSWERS THAT THE CHECKER'S PROMISE SHUTS OUT. Document 01, "What the inspector asks of each promise" and "Shortcuts that look right".
+-- What follows from the definitions of specs/Check.
 --     check-shuts-out             every claim of the table is settled: the right answer meets the promise, and the wrong one does not
 --     check-not-one               "a checker with one verdict for all lists": no answer serves them all
 -- Assumes nothing.

@@ -1,4 +1,4 @@
--- OUTCOMES THAT THE PLANNER'S PROMISE SHUTS OUT. Document 01, "What the inspector asks of each promise" and "Shortcuts that look right".
+-- What follows from the definitions of specs/Plan.
 --     plan-shuts-out                 every claim of the table is settled so
 --     plan-not-one                   no outcome serves all tables
 -- Assumes nothing.

@@ -1,5 +1,4 @@
--- WRONG PROGRAMS, WHATEVER ELSE THEY DO. Document 01, "What the inspector asks of each promise": "Demand 2 shuts out: a planner that always refuses .., one that returns the same starts, one
--- that leaves the columns untouched and says 0, one that places the first probe and only marks later ones, a checker with one verdict for all lists .. and a made-up shared tick".
+-- What follows from the definitions of specs/Programs.
 --     never-done-no-planner     one that never says 0 is no planner
 --     same-starts-no-planner    nor is one whose starts hang on the lent column alone: the same starts, or the column untouched
 --     same-fills-no-planner     nor one whose fills hang on the lent column alone

@@ -1,4 +1,4 @@
--- THE TEST OF A LINE SAYS WHETHER IT IS CLEAN. Document 01, "The line and its words" (clean), "Meeting on the wire" and number 10.
+-- What follows from the definitions of specs/CleanTest.
 --     clean-pairs                clean is: no two probes i < j ever meet
 --     apart_by, tick_by .. i j     the test and the tick with d taken by the period of i; at-by-first, at-by-second: the shorter period's are the pair's
 --     apart-at-tells             the test of a pair says whether the two never meet
@@ -7,7 +7,6 @@
 --     tick-at-bound              with the longer period and the longer read it is at most their sum less 2
 --     clean-among-every          clean among all is clean
 --     clean-among-less           a clean line is clean among any of its probes
--- Edges: the empty line is clean and passes. The test asks nothing of the starts; only the tick asks that they lie below their periods.
 -- Assumes nothing.
 use Rattle.std.specs.Prelude.{◌≡◌, ◌↔◌, Bool, false, List, length, get_or}
 use Prim.Native.Nat.{ℕ, zero, suc, ◌+◌, ◌≤◌, ◌<◌, max}

@@ -1,10 +1,8 @@
--- THE FIRST SHARED TICK. Document 01, number 10: "that pair's first shared tick".
+-- What follows from the definitions of specs/FirstShared.
 --     first-shared-unique         there is one at most
 --     first-shared-swap           which of the two is named first does not matter
 --     shared-tick-first           of two that are not apart, the four cases of shared_tick give it
 --     shared-tick-bound           it is at most U + max q r - 2
--- Edges: only the shorter one's start must lie below its period; for the bound the other's too. Widths may pass their periods.
--- Not said here: which of two periods is the shorter (CleanTest).
 -- Assumes nothing.
 use Rattle.std.specs.Prelude.{◌≡◌, ℕ, ◌+◌, ◌-◌, ◌%◌, ◌≤◌, ◌<◌, max}
 use Rattle.std.proofs.Common.{ap, ◌∙◌, add-zero, mod-eq_of_lt, arith}

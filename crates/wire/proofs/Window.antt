@@ -1,9 +1,7 @@
--- OF ANY T TICKS, EXACTLY q. The customer's demand 3, first sentence; document 01, "The line and its words".
+-- What follows from the definitions of specs/Window.
 --     held_tells         held is 1 exactly where the probe holds the tick
 --     window             from any tick at or after the start: of the next T ticks exactly q are the probe's
 --     clean-alone        in a clean line no other probe has any of those
--- Edges: a tick before the start is not held, so a window that begins before it may have fewer. A read may pass the window's end: then as much of an
--- earlier one stands at its beginning.
 -- Assumes nothing.
 use Rattle.std.specs.Prelude.{◌≡◌, ◌↔◌, ◌≢◌, Bool, List, length}
 use Rattle.std.proofs.Math.Path.{refl, ap}
