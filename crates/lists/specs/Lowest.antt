@@ -3,7 +3,7 @@
 --     lowest f n        the same, found by trying the test f at 0, 1, ..
 --     Searching f n i   what a loop knows that has tried the places below i
 -- Assumes nothing.
-use Rattle.std.specs.Prelude.{◌≡◌, refl, Bool, true, false, ℕ, zero, suc, ◌+◌, ◌-◌, ◌≤◌, ◌<◌}
+use Rattle.std.specs.Prelude.{◌≡◌, refl, Bool, true, false, ℕ, zero, suc, ◌+◌, ◌-◌, ◌≤◌, ◌<◌, Option, MatchOption}
 use Rattle.std.proofs.Common.{ap, add-one, arith}
 use Rattle.std.proofs.Math.Nat.{sub-zero}
 use Rattle.lists.specs.Pick.{pick, Tells, Decides}
@@ -26,6 +26,10 @@ lowest_from f i (suc k) = pick (f i) i (lowest_from f (suc i) k)
 
 unfoldable pub lowest : (ℕ → Bool) → ℕ → ℕ
 lowest f n = lowest_from f 0 n
+
+-- what a search answers: the lowest place, or none
+abbrev pub FirstAt : (ℕ → Bool) → ℕ → Option ℕ → Type 0
+FirstAt f n r = MatchOption r (lowest f n ≡ n) (λ i. (i < n) × (lowest f n ≡ i))
 
 pub record Searching (f : ℕ → Bool) (n i : ℕ) : Type 0 where
   pub within : i ≤ n

@@ -2,10 +2,14 @@
 #![tactic(auto)]
 
 ghost use Rattle.std.specs.Prelude.{◌≡◌};
-ghost use Rattle.words.specs.Answers.{pair, refused, done, mark};
+ghost use Rattle.words.specs.Answers.{pair, refused, named, done, mark};
 ghost use Rattle.words.specs.Ticks.{last_tick, too_late, most_period};
 
-// What every call answers: a number of document 01's table, and what that number names. Fields not named are 0.
+mod refusals;
+
+pub use refusals::Refusal;
+
+// What the master shows: a number of document 01's table, and what that number names. Fields not named are 0.
 #[derive(Drop)]
 pub struct Answer {
     pub number: u32,
@@ -40,6 +44,13 @@ impl Answer {
         }
     }
 
+    // A call that is done, and what it names.
+    pub fn named(index: u32) -> Self
+        ensures { result ≡ named index }
+    {
+        Answer::refused(0, index)
+    }
+
     pub fn pair(number: u32, index: u32, second: u32, tick: u64) -> Self
         ensures { result ≡ pair number index second tick }
     {
@@ -57,6 +68,19 @@ impl Answer {
     {
         Answer::MARK
     }
+}
+
+// The probe that holds a tick.
+#[derive(Clone, Copy, Debug, PartialEq, Eq)]
+pub struct Held {
+    pub probe: u32,
+}
+
+// A read that starts: its probe, and the tick.
+#[derive(Clone, Copy, Debug, PartialEq, Eq)]
+pub struct NextStart {
+    pub probe: u32,
+    pub tick: u64,
 }
 
 // A tick that is asked about.
