@@ -1,96 +1,45 @@
 // Columns of a table: the least and the longest period, and the lowest place whose period, length or start is not permitted.
 #![tactic(auto)]
 
-ghost use Rattle.std.specs.Prelude.{◌≡◌, ℕ, ◌≤◌, length};
-ghost use Rattle.lists.specs.Lowest.{lowest};
-ghost use Rattle.probes.specs.Columns.{shortest, longest, bad_period, bad_length, late};
+ghost use Rattle.std.specs.Prelude.{◌≡◌, ◌||◌, eqb, ltb, leb, zip, position};
+ghost use Rattle.words.specs.Ticks.{most_period};
+ghost use Rattle.probes.specs.Columns.{shortest, longest};
 
 use words::Period;
 
-// w: the least period.
+// w: the least period, 0 where there is none.
+#[tactic(auto, using(probes::proofs::Folding::shortest_by_reduce))]
 pub fn least(periods: &[u32]) -> u32
     ensures { result ≡ shortest periods.now }
 {
-    if periods.len() == 0 {
-        return 0;
-    }
-    let mut w = periods[0];
-    let mut i = 1;
-    while i < periods.len() {
-        let t = periods[i];
-        if t < w {
-            w = t;
-        }
-        i += 1;
-    }
-    w
+    periods.iter().copied().reduce(u32::min).unwrap_or(0)
 }
 
-// M: the longest period.
+// M: the longest period, 0 where there is none.
+#[tactic(auto, using(probes::proofs::Folding::longest_by_fold))]
 pub fn greatest(periods: &[u32]) -> u32
     ensures { result ≡ longest periods.now }
 {
-    let mut m = 0;
-    let mut i = 0;
-    while i < periods.len() {
-        let t = periods[i];
-        if m < t {
-            m = t;
-        }
-        i += 1;
-    }
-    m
+    periods.iter().fold(0, |m, t| m.max(*t))
 }
 
-// Number 3: the lowest place whose period is out of range; the number of probes where there is none.
-pub fn bad_period(periods: &[u32]) -> usize
-    ensures { result ≡ lowest (bad_period periods.now) (length periods.now) }
+// Number 3: the lowest place whose period is out of range.
+pub fn bad_period(periods: &[u32]) -> Option<usize>
+    ensures { result ≡ position (λ t. ltb t 1 || ltb most_period t) periods.now }
 {
-    let mut i = 0;
-    while i < periods.len() {
-        let t = periods[i];
-        if t < 1 {
-            return i;
-        }
-        if Period::LONGEST < t {
-            return i;
-        }
-        i += 1;
-    }
-    i
+    periods.iter().position(|t| *t < 1 || Period::LONGEST < *t)
 }
 
 // Number 4: the lowest place whose length is 0 or above w.
-pub fn bad_length(lengths: &[u32], w: u32) -> usize
-    ensures { result ≡ lowest (bad_length w lengths.now) (length lengths.now) }
+pub fn bad_length(lengths: &[u32], w: u32) -> Option<usize>
+    ensures { result ≡ position (λ p. eqb p 0 || ltb w p) lengths.now }
 {
-    let mut i = 0;
-    while i < lengths.len() {
-        let p = lengths[i];
-        if p == 0 {
-            return i;
-        }
-        if w < p {
-            return i;
-        }
-        i += 1;
-    }
-    i
+    lengths.iter().position(|p| *p == 0 || w < *p)
 }
 
-// Number 9: the lowest place whose start is not below its period; the number of probes where there is none.
-pub fn late(periods: &[u32], starts: &[u32]) -> usize
-    requires { length periods.now ≤ length starts.now }
-    ensures { result ≡ lowest (late periods.now starts.now) (length periods.now) }
+// Number 9: the lowest place whose start is not below its period.
+pub fn late(periods: &[u32], starts: &[u32]) -> Option<usize>
+    ensures { result ≡ position (λ x. leb x.0 x.1) (zip periods.now starts.now) }
 {
-    let mut i = 0;
-    while i < periods.len() {
-        let t = periods[i];
-        let s = starts[i];
-        if t <= s {
-            return i;
-        }
-        i += 1;
-    }
-    i
+    periods.iter().zip(starts).position(|(t, s)| t <= s)
 }

@@ -4,3 +4,4 @@ pub mod Laws
 pub mod Composing
 pub mod Passed
 pub mod Widths
+pub mod Folding
