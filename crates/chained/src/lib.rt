@@ -1,18 +1,19 @@
 // Number 5: of any two periods of the table one divides the other.
 #![tactic(auto)]
 
-ghost use Rattle.std.specs.Prelude.{◌≡◌, ℕ, ◌≤◌, ◌<◌, length, get_or};
+ghost use Rattle.std.specs.Prelude.{◌≡◌, ℕ, ◌≤◌, ◌<◌, length, get_or, eqb, not, ◌%◌, ◌&&◌};
+ghost use Rattle.std.specs.List.{list_any};
 ghost use Rattle.lists.specs.Pick.{Tells};
-ghost use Rattle.lists.specs.Lowest.{lowest};
+ghost use Rattle.lists.specs.Lowest.{FirstAt};
 ghost use Rattle.words.specs.Ticks.{most_period};
 ghost use Rattle.probes.specs.Chained.{unchained};
 ghost use Rattle.probes.specs.Seen.{most_chained, Seen, Clashes};
 
-// The different periods that a search keeps.
+use arrayvec::ArrayVec;
+
+// The different periods that a search has met, in an array of so many places.
 #[derive(Drop)]
-pub struct Kept {
-    pub count: usize,
-}
+pub struct Kept {}
 
 impl Kept {
     // As many can divide one another.
@@ -26,60 +27,35 @@ impl Kept {
     }
 }
 
-// Whether x is one of the first n periods that were seen.
-fn is_seen(seen: [u32; Kept::MOST], n: usize, x: u32) -> bool
-    requires { n ≤ most_chained }
-    ensures { Tells result (Seen seen n x) }
+// Whether x is one of the periods that were seen.
+fn is_seen(seen: &[u32], x: u32) -> bool
+    ensures { result ≡ list_any (λ t. eqb t x) seen.now }
 {
-    let mut k = 0;
-    while k < n {
-        if seen[k] == x {
-            return true;
-        }
-        k += 1;
-    }
-    false
+    seen.contains(&x)
 }
 
-// Whether one of the first n periods that were seen neither divides x nor is divided by it.
-fn clashes(seen: [u32; Kept::MOST], n: usize, x: u32) -> bool
-    requires n_le_most_chained { n ≤ most_chained }
+// Whether one of the periods that were seen neither divides x nor is divided by it.
+fn clashes(seen: &[u32], x: u32) -> bool
     requires x_nonzero { 0 < x }
-    requires by_index { (k : ℕ) → k < n → 0 < get_or seen k 0 }
-    ensures { Tells result (Clashes seen n x) }
+    requires by_index { (k : ℕ) → k < length seen.now → 0 < get_or seen.now k 0 }
+    ensures { result ≡ list_any (λ t. not (eqb (x % t) 0) && not (eqb (t % x) 0)) seen.now }
 {
-    let mut k = 0;
-    while k < n {
-        let t = seen[k];
-        if x % t != 0 {
-            if t % x != 0 {
-                return true;
-            }
-        }
-        k += 1;
-    }
-    false
+    seen.iter().any(|t| x % *t != 0 && *t % x != 0)
 }
 
 // Number 5: the lowest place whose period is out of the chain with an earlier one. Each period is held against the different ones seen so far.
-pub fn unchained(periods: &[u32]) -> usize
+pub fn unchained(periods: &[u32]) -> Option<usize>
     requires { (k : ℕ) → k < length periods.now → (0 < get_or periods.now k 0) × (get_or periods.now k 0 ≤ most_period) }
-    ensures { result ≡ lowest (unchained periods.now) (length periods.now) }
+    ensures { FirstAt (unchained periods.now) (length periods.now) result }
 {
-    let mut seen = [0u32; Kept::MOST];
-    let mut n: usize = 0;
-    let mut i: usize = 0;
-    while i < periods.len() {
-        let t = periods[i];
-        let old = is_seen(seen, n, t);
-        if !old {
-            if clashes(seen, n, t) {
-                return i;
+    let mut seen: ArrayVec<u32, { Kept::MOST }> = ArrayVec::new();
+    for (i, t) in periods.iter().enumerate() {
+        if !is_seen(&seen, *t) {
+            if clashes(&seen, *t) {
+                return Some(i);
             }
-            seen[n] = t;
-            n += 1;
+            seen.push(*t);
         }
-        i += 1;
     }
-    i
+    None
 }

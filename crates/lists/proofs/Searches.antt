@@ -1,11 +1,12 @@
 -- SEARCHES BY A METHOD OF THE LIBRARY: what `position` finds in a list is the lowest place at which a test of places holds.
 --     first-at     of a test of the elements that agrees with the test of the places
 -- Assumes nothing.
-use Rattle.std.specs.Prelude.{◌≡◌, refl, Bool, true, false, not, List, [], ◌∷◌, ℕ, suc, ◌+◌, ◌<◌, ltb, length, Option, Some, None, cond, position}
+use Rattle.std.specs.Prelude.{◌≡◌, refl, Bool, true, false, not, ◌||◌, List, [], ◌∷◌, ℕ, zero, suc, ◌+◌, ◌<◌, ltb, length, Option, Some, None, cond, position}
 use Rattle.std.proofs.Common.{ap, sym, ◌∙◌, add-zero, zero-add, arith, get_or, ltb-true, ltb-false}
 use Rattle.std.proofs.lemmas.List.Sums.{prefix_len-le-length}
-use Rattle.std.specs.List.{position_or_len}
-use Rattle.lists.specs.Pick.{pick}
+use Rattle.std.specs.List.{position_or_len, list_any}
+use Rattle.lists.specs.Pick.{pick, Tells}
+use Rattle.lists.specs.Telling.{true-or-false}
 use Rattle.lists.specs.Lowest.{lowest, lowest_from, FirstAt}
 
 module _ {X : Type 0} (p : X → Bool) (d : X) where
@@ -32,3 +33,19 @@ module _ {X : Type 0} (p : X → Bool) (d : X) where
       go : (b : Bool) → ltb (position_or_len p xs) (length xs) ≡ b → FirstAt f (length xs) (cond b (Some (position_or_len p xs)) None)
       go true b = (ltb-true _ _ b, low)
       go false b = low ∙ omega (arith, prefix_len-le-length (λ x. not (p x)) xs, ltb-false _ _ b)
+
+-- a test of some element
+pub tells-list-any : (p : ℕ → Bool) (P : ℕ → Type 0) → ((x : ℕ) → Tells (p x) (P x)) → (xs : List ℕ) → Tells (list_any p xs) ((k : ℕ) × (k < length xs) × P (get_or xs k 0))
+tells-list-any p P t [] = record { yes = λ e. absurd (true-or-false false e refl); no = λ e (k, h, q). omega (arith, h) }
+tells-list-any p P t (x ∷ xs) = go (p x) (t x) (tells-list-any p P t xs)
+  where
+    go : (b : Bool) → Tells b (P x) → Tells (list_any p xs) ((k : ℕ) × (k < length xs) × P (get_or xs k 0)) → Tells (b || list_any p xs) ((k : ℕ) × (k < suc (length xs)) × P (get_or (x ∷ xs) k 0))
+    go true s ih = record { yes = λ e. (0, omega arith, s.yes refl); no = λ e q. true-or-false true refl e }
+    go false s ih = record { yes = λ e. later (ih.yes e); no = λ e q. none e q }
+      where
+        later : (k : ℕ) × (k < length xs) × P (get_or xs k 0) → (k : ℕ) × (k < suc (length xs)) × P (get_or (x ∷ xs) k 0)
+        later (k, h, q) = (suc k, omega arith, q)
+
+        none : list_any p xs ≡ false → (k : ℕ) × (k < suc (length xs)) × P (get_or (x ∷ xs) k 0) → ⊥
+        none e (zero, h, q) = s.no refl q
+        none e (suc k, h, q) = ih.no e (k, omega arith, q)

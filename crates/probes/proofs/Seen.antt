@@ -1,12 +1,17 @@
 -- What follows from the definitions of specs/Seen.
+--     seen-told, clashes-told     the tests over the kept periods
 --     Keeping Ts seen n i  the kept ones are the different periods of the first i probes, and of two one divides the other
 -- Assumes nothing.
-use Rattle.std.specs.Prelude.{◌≡◌, refl, ◌≢◌, Bool, true, false, not, List, ℕ, ◌+◌, ◌*◌, ◌^◌, ◌%◌, ◌≤◌, ◌<◌, eqb, length, get_or, set}
-use Rattle.std.proofs.Common.{sym, ◌∙◌, inl, inr, add-one, arith, get_or-set_same, get_or-set_other, eq-eqb, ne_eqb}
+use Rattle.std.specs.Prelude.{◌≡◌, refl, ◌≢◌, Bool, true, false, not, ◌&&◌, List, [], ◌∷◌, ◌++◌, ℕ, ◌+◌, ◌*◌, ◌^◌, ◌%◌, ◌≤◌, ◌<◌, eqb, length, get_or}
+use Rattle.std.proofs.Common.{sym, ◌∙◌, inl, inr, add-one, arith, eq-eqb, ne_eqb}
 use Rattle.std.proofs.Math.Nat.{dvd_refl}
+use Rattle.std.proofs.Math.ListN.{get_or-append}
+use Rattle.std.proofs.Math.Seq.{get_or-append_seam}
 use Rattle.std.proofs.Math.Decide.{dec_lt}
-use Rattle.lists.specs.Pick.{pick, Tells}
-use Rattle.lists.specs.Telling.{tells-true, tells-false, tells_as, tells-not, tells-either, tells-any, tells-divides}
+use Rattle.lists.specs.Pick.{pick, either, Tells}
+use Rattle.lists.specs.Telling.{tells-true, tells-false, tells_as, tells-not, tells-either, tells-any, tells-eq, tells-divides}
+use Rattle.lists.proofs.Searches.{tells-list-any}
+use Rattle.std.specs.List.{list_any}
 use Rattle.lists.specs.Doubling.{Mutual, few}
 use Rattle.words.specs.Ticks.{most_period}
 use Rattle.probes.specs.Chained.{Unchained, divides, chained, unchained}
@@ -120,15 +125,6 @@ module _ (Ts seen : List ℕ) (n i : ℕ) (g : Keeping Ts seen n i) where
                 at (inl d) = b d
                 at (inr d) = a d
 
-    abbrev with-new : List ℕ
-    with-new = set seen n (get_or Ts i 0)
-
-    new-same : n < length seen → get_or with-new n 0 ≡ get_or Ts i 0
-    new-same h = get_or-set_same seen n (get_or Ts i 0) 0 h
-
-    new-other : (k : ℕ) → k < n → get_or with-new k 0 ≡ get_or seen k 0
-    new-other k h = get_or-set_other seen n k (get_or Ts i 0) 0 (λ e. absurd (omega arith))
-
     -- the numbers kept so far, and the new one at place n
     abbrev grown : ℕ → ℕ
     grown k = pick (eqb k n) (get_or Ts i 0) (get_or seen k 0)
@@ -164,35 +160,68 @@ module _ (Ts seen : List ℕ) (n i : ℕ) (g : Keeping Ts seen n i) where
             let r = range i (omega arith) in
             rw (same, grown-new) (omega arith, omega arith)
 
-    new_is : n < length seen → (k : ℕ) → k < n + 1 → get_or with-new k 0 ≡ grown k
-    new_is len k h = by (dec_lt k n)
-      where
-        by : Dec (k < n) → get_or with-new k 0 ≡ grown k
-        by (yes l) = new-other k l ∙ sym (grown-old k l)
-        by (no l) =
-            let same : k ≡ n = omega arith in
-            rw same (new-same len ∙ sym grown-new)
+    -- the new one behind the kept ones
+    abbrev with-new : List ℕ
+    with-new = seen ++ (get_or Ts i 0 ∷ [])
 
-    new-mutual : n < length seen → Mutual (λ k. get_or with-new k 0) (n + 1)
-    new-mutual len k l h m = rw (new_is len k (omega arith), new_is len l m) (grown-mutual k l h m)
+    module _ (len : n ≡ length seen) where
+      new-other : (k : ℕ) → k < n → get_or with-new k 0 ≡ get_or seen k 0
+      new-other k h = get_or-append seen _ 0 k (omega (arith, len))
 
-    pub new-more : n < length seen → Keeping Ts with-new (n + 1) (i + 1)
-    new-more len = record { kept = λ j h. old j h (dec_lt j i); from = λ k h. came k h (dec_lt k n); mutual-of = new-mutual len }
-      where
-        old : (j : ℕ) → j < i + 1 → Dec (j < i) → Seen with-new (n + 1) (get_or Ts j 0)
-        old j h (yes l) = at (g.kept j l)
-          where
-            at : Seen seen n (get_or Ts j 0) → Seen with-new (n + 1) (get_or Ts j 0)
-            at (k, hk, e) = (k, omega arith, new-other k hk ∙ e)
-        old j h (no l) =
-            let same : j ≡ i = omega arith in
-            rw same (n, omega arith, new-same len)
+      new-same : get_or with-new n 0 ≡ get_or Ts i 0
+      new-same = rw len (get_or-append_seam seen _ [] 0)
 
-        came : (k : ℕ) → k < n + 1 → Dec (k < n) → (j : ℕ) × (j < i + 1) × (get_or Ts j 0 ≡ get_or with-new k 0)
-        came k h (yes l) = at (g.from k l)
-          where
-            at : (j : ℕ) × (j < i) × (get_or Ts j 0 ≡ get_or seen k 0) → (j : ℕ) × (j < i + 1) × (get_or Ts j 0 ≡ get_or with-new k 0)
-            at (j, hj, e) = (j, omega arith, e ∙ sym (new-other k l))
-        came k h (no l) =
-            let same : k ≡ n = omega arith in
-            rw same (i, omega arith, sym (new-same len))
+      new_is : (k : ℕ) → k < n + 1 → get_or with-new k 0 ≡ grown k
+      new_is k h = by (dec_lt k n)
+        where
+          by : Dec (k < n) → get_or with-new k 0 ≡ grown k
+          by (yes l) = new-other k l ∙ sym (grown-old k l)
+          by (no l) =
+              let same : k ≡ n = omega arith in
+              rw same (new-same ∙ sym grown-new)
+
+      new-mutual : Mutual (λ k. get_or with-new k 0) (n + 1)
+      new-mutual k l h m = rw (new_is k (omega arith), new_is l m) (grown-mutual k l h m)
+
+      pub new-more : Keeping Ts with-new (n + 1) (i + 1)
+      new-more = record { kept = λ j h. old j h (dec_lt j i); from = λ k h. came k h (dec_lt k n); mutual-of = new-mutual }
+        where
+          old : (j : ℕ) → j < i + 1 → Dec (j < i) → Seen with-new (n + 1) (get_or Ts j 0)
+          old j h (yes l) = at (g.kept j l)
+            where
+              at : Seen seen n (get_or Ts j 0) → Seen with-new (n + 1) (get_or Ts j 0)
+              at (k, hk, e) = (k, omega arith, new-other k hk ∙ e)
+          old j h (no l) =
+              let same : j ≡ i = omega arith in
+              rw same (n, omega arith, new-same)
+
+          came : (k : ℕ) → k < n + 1 → Dec (k < n) → (j : ℕ) × (j < i + 1) × (get_or Ts j 0 ≡ get_or with-new k 0)
+          came k h (yes l) = at (g.from k l)
+            where
+              at : (j : ℕ) × (j < i) × (get_or Ts j 0 ≡ get_or seen k 0) → (j : ℕ) × (j < i + 1) × (get_or Ts j 0 ≡ get_or with-new k 0)
+              at (j, hj, e) = (j, omega arith, e ∙ sym (new-other k l))
+          came k h (no l) =
+              let same : k ≡ n = omega arith in
+              rw same (i, omega arith, sym new-same)
+
+-- the two tests of the code, over the kept periods
+pub seen-tells : (seen : List ℕ) (x : ℕ) → Tells (list_any (λ t. eqb t x) seen) (Seen seen (length seen) x)
+seen-tells seen x = tells-list-any (λ t. eqb t x) (λ t. t ≡ x) (λ t. tells-eq t x) seen
+
+neither-not : (a b : Bool) → not (either a b) ≡ (not a && not b)
+neither-not true b = refl
+neither-not false b = refl
+
+pub clashes-tells : (seen : List ℕ) (x : ℕ) → Tells (list_any (λ t. not (eqb (x % t) 0) && not (eqb (t % x) 0)) seen) (Clashes seen (length seen) x)
+unfolding chained divides
+clashes-tells seen x = tells-list-any (λ t. not (eqb (x % t) 0) && not (eqb (t % x) 0)) (λ t. Chained t x → ⊥) each seen
+  where
+    each : (t : ℕ) → Tells (not (eqb (x % t) 0) && not (eqb (t % x) 0)) (Chained t x → ⊥)
+    each t = rw (← neither-not (eqb (x % t) 0) (eqb (t % x) 0)) (tells-not (chained t x) (chained-tells t x))
+
+-- .. as a call over a slice answers them
+pub seen-told : (seen now : List ℕ) (x : ℕ) (b : Bool) → now ≡ seen → b ≡ list_any (λ t. eqb t x) now → Tells b (Seen seen (length seen) x)
+seen-told seen now x b e f = rw (f, e) (seen-tells seen x)
+
+pub clashes-told : (seen now : List ℕ) (x : ℕ) (b : Bool) → now ≡ seen → b ≡ list_any (λ t. not (eqb (x % t) 0) && not (eqb (t % x) 0)) now → Tells b (Clashes seen (length seen) x)
+clashes-told seen now x b e f = rw (f, e) (clashes-tells seen x)
