@@ -1,13 +1,25 @@
 -- SEARCHES BY A METHOD OF THE LIBRARY: what `position` finds in a list is the lowest place at which a test of places holds.
+--     found-at, none-at     what such an answer says of the lowest place
 --     first-at     of a test of the elements that agrees with the test of the places
 -- Assumes nothing.
-use Rattle.std.specs.Prelude.{◌≡◌, refl, Bool, true, false, not, ◌||◌, List, [], ◌∷◌, ℕ, zero, suc, ◌+◌, ◌<◌, ltb, length, Option, Some, None, cond, position}
+use Rattle.std.specs.Prelude.{◌≡◌, refl, Bool, true, false, not, ◌||◌, List, [], ◌∷◌, ℕ, zero, suc, ◌+◌, ◌≤◌, ◌<◌, ltb, length, Option, Some, None, cond, position}
 use Rattle.std.proofs.Common.{ap, sym, ◌∙◌, add-zero, zero-add, arith, get_or, ltb-true, ltb-false}
 use Rattle.std.proofs.lemmas.List.Sums.{prefix_len-le-length}
 use Rattle.std.specs.List.{position_or_len, list_any}
 use Rattle.lists.specs.Pick.{pick, Tells}
 use Rattle.lists.specs.Telling.{true-or-false}
 use Rattle.lists.specs.Lowest.{lowest, lowest_from, FirstAt}
+
+module _ (f : ℕ → Bool) (n : ℕ) (r : Option ℕ) where
+  pub found-at : (i : ℕ) → FirstAt f n r → r ≡ Some i → (i < n) × (i ≡ lowest f n)
+  found-at i a e =
+      let b : FirstAt f n (Some i) = rw e at a in
+      (b.0, sym b.1)
+
+  pub none-at : FirstAt f n r → r ≡ None → n ≤ lowest f n
+  none-at a e =
+      let b : FirstAt f n None = rw e at a in
+      omega (arith, b)
 
 module _ {X : Type 0} (p : X → Bool) (d : X) where
   searched : (xs : List X) (f : ℕ → Bool) (i : ℕ) → ((k : ℕ) → k < length xs → f (i + k) ≡ p (get_or xs k d))

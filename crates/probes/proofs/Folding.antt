@@ -3,7 +3,7 @@
 --     bad-period-at, bad-length-at, late-at     the lowest place at which 3, 4 and 9 apply
 -- Assumes nothing.
 use Rattle.std.specs.Prelude.{◌≡◌, refl, Bool, true, false, List, [], ◌∷◌, ℕ, zero, suc, ◌≤◌, ◌<◌, min, max, eqb, ltb, leb, ◌||◌, Option, length, fold, zip, position}
-use Rattle.std.proofs.Common.{◌∙◌, ap, sym, arith, get_or}
+use Rattle.std.proofs.Common.{◌∙◌, ap, arith, get_or}
 use Rattle.std.specs.List.{reduce}
 use Rattle.std.specs.Option.{unwrap_or}
 use Rattle.lists.specs.Pick.{either}
@@ -45,6 +45,10 @@ bad-period-at Ts r e = first-at (λ t. ltb t 1 || ltb most_period t) 0 Ts (bad_p
 pub bad-length-at : (w : ℕ) (ps : List ℕ) (r : Option ℕ) → r ≡ position (λ p. eqb p 0 || ltb w p) ps → FirstAt (bad_length w ps) (length ps) r
 unfolding bad_length
 bad-length-at w ps r e = first-at (λ p. eqb p 0 || ltb w p) 0 ps (bad_length w ps) (λ k h. either-or (eqb (get_or ps k 0) 0) (ltb w (get_or ps k 0))) r e
+
+-- .. of a table, whose lengths are as many as its periods
+pub bad-lengths-at : (Ts ps : List ℕ) (w : ℕ) (r : Option ℕ) → w ≡ shortest Ts → length Ts ≡ length ps → r ≡ position (λ p. eqb p 0 || ltb w p) ps → FirstAt (bad_length (shortest Ts) ps) (length Ts) r
+bad-lengths-at Ts ps w r e same f = rw (e, ← same) at (bad-length-at w ps r f)
 
 length-zip : (Ts ss : List ℕ) → length Ts ≤ length ss → length (zip Ts ss) ≡ length Ts
 length-zip [] ss h = refl

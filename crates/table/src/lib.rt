@@ -1,14 +1,15 @@
 // The table of probes: its least and longest period, and the judges of numbers 1 to 6 and 9, which every other call composes.
 #![tactic(auto)]
 
-ghost use Rattle.std.specs.Prelude.{◌≡◌, ℕ, ◌≤◌};
+ghost use Rattle.std.specs.Prelude.{◌≡◌};
+ghost use Rattle.words.specs.Refused.{shown};
 ghost use Rattle.probes.specs.Table.{most_probes, most_rows, shortest, longest, rows};
 ghost use Rattle.probes.specs.Verdict.{verdict, Validates};
 ghost use Rattle.probes.specs.Composing.{list_verdict};
 
 use chained::unchained;
 use columns::{bad_length, bad_period, greatest, late, least};
-use words::Answer;
+use words::Refusal;
 
 // What every later layer asks of a table: w, M and H. All are 0 for the empty table.
 #[derive(Clone, Copy)]
@@ -27,19 +28,12 @@ impl Table {
     pub fn of(periods: &[u32]) -> Self
         ensures { result ≡ record { shortest = shortest periods.now; longest = longest periods.now; rows = rows periods.now } }
     {
-        let w = least(periods);
-        let m = greatest(periods);
-        if w == 0 {
-            return Table {
-                shortest: w,
-                longest: m,
-                rows: 0,
-            };
-        }
+        let shortest = least(periods);
+        let longest = greatest(periods);
         Table {
-            shortest: w,
-            longest: m,
-            rows: m / w,
+            shortest,
+            longest,
+            rows: longest.checked_div(shortest).unwrap_or(0),
         }
     }
 
@@ -57,69 +51,49 @@ impl Table {
     }
 }
 
-// A refusal at a place of the table, for every judge.
-pub fn at_place(number: u32, place: usize) -> Answer
-    requires { place ≤ most_probes }
-    ensures { result ≡ record { number = number; index = place; second = 0; tick = 0 } }
-{
-    Answer::refused(number, place as u32)
-}
-
 // Numbers 1 to 6, in order: what every call asks first.
-pub fn judge(periods: &[u32], lengths: &[u32]) -> Answer
-    ensures { result ≡ verdict periods.now lengths.now }
+pub fn judge(periods: &[u32], lengths: &[u32]) -> Result<(), Refusal>
+    ensures { shown result ≡ verdict periods.now lengths.now }
 {
-    let n = periods.len();
-    if n != lengths.len() {
-        return Answer::refused(1, 0);
+    if periods.len() != lengths.len() {
+        return Err(Refusal::ColumnsDiffer);
     }
-    if Table::PROBES < n {
-        return Answer::refused(2, 0);
+    if Table::PROBES < periods.len() {
+        return Err(Refusal::TooManyProbes);
     }
-    let i = bad_period(periods);
-    if i < n {
-        return at_place(3, i);
+    if let Some(i) = bad_period(periods) {
+        return Err(Refusal::BadPeriod(i as u32));
     }
     let table = Table::of(periods);
-    let w = table.shortest;
-    let j = bad_length(lengths, w);
-    if j < n {
-        return at_place(4, j);
+    if let Some(i) = bad_length(lengths, table.shortest) {
+        return Err(Refusal::BadLength(i as u32));
     }
-    let k = unchained(periods);
-    if k < n {
-        return at_place(5, k);
+    if let Some(i) = unchained(periods) {
+        return Err(Refusal::Unchained(i as u32));
     }
-    let h = table.rows;
-    if Table::ROWS < h {
-        return Answer::refused(6, 0);
+    if Table::ROWS < table.rows {
+        return Err(Refusal::TooManyRows);
     }
-    Answer::done()
+    Ok(())
 }
 
 // Numbers 1 to 6 and 9 of a list, in order: what checker and timetable ask first.
-pub fn judge_list(periods: &[u32], lengths: &[u32], starts: &[u32]) -> Answer
-    ensures { result ≡ list_verdict periods.now lengths.now starts.now }
+pub fn judge_list(periods: &[u32], lengths: &[u32], starts: &[u32]) -> Result<(), Refusal>
+    ensures { shown result ≡ list_verdict periods.now lengths.now starts.now }
 {
-    let n = periods.len();
-    if n != starts.len() {
-        return Answer::refused(1, 0);
+    if periods.len() != starts.len() {
+        return Err(Refusal::ColumnsDiffer);
     }
-    let answer = judge(periods, lengths);
-    let number = answer.number;
-    if number != 0 {
-        return answer;
+    judge(periods, lengths)?;
+    match late(periods, starts) {
+        Some(i) => Err(Refusal::Late(i as u32)),
+        None => Ok(()),
     }
-    let i = late(periods, starts);
-    if i < n {
-        return at_place(9, i);
-    }
-    Answer::done()
 }
 
 // Validates a table: any two columns of any length.
-pub fn validate(periods: &[u32], lengths: &[u32]) -> Answer
-    ensures { Validates periods.now lengths.now result }
+pub fn validate(periods: &[u32], lengths: &[u32]) -> Result<(), Refusal>
+    ensures { Validates periods.now lengths.now (shown result) }
 {
     judge(periods, lengths)
 }

@@ -1,14 +1,15 @@
 -- REFUSALS: no refusal has number 0, and an answer tells which refusal it is.
 --     refusal-above     the number of a refusal is above 0
 --     told              the refusal of an answer's four numbers
+--     passed-on         a refusal that `?` passes on
 --     refusal-unique    two refusals with one answer are one
 -- Assumes nothing.
-use Rattle.std.specs.Prelude.{◌≡◌, refl, ℕ, ◌<◌, eqb, cond}
+use Rattle.std.specs.Prelude.{◌≡◌, refl, ℕ, ◌<◌, eqb, cond, Result, Ok, Err, IsErrAnd}
 use Rattle.std.proofs.Common.{ap, sym, ◌∙◌, arith}
 use Rattle.words.specs.declared.Answer.{Answer}
 use Rattle.words.specs.declared.refusals.Refusal.{Refusal}
 use Rattle.words.specs.declared.refusals.Refusal.TheVariants.{ColumnsDiffer, TooManyProbes, BadPeriod, BadLength, Unchained, TooManyRows, NoRoom, NoPlace, Late, Meeting, TooLate, OffGrid, BadSize, WrongSum, WrongField, UsedUnused, ShortColumn}
-use Rattle.words.specs.Refused.{refusal}
+use Rattle.words.specs.Refused.{refusal, answered}
 
 pub refusal-above : (r : Refusal) → 0 < (refusal r).number
 refusal-above ColumnsDiffer = omega arith
@@ -74,3 +75,8 @@ told-back ShortColumn = refl
 
 pub refusal-unique : (r s : Refusal) → refusal r ≡ refusal s → r ≡ s
 refusal-unique r s e = sym (told-back r) ∙ (ap told e ∙ told-back s)
+
+-- a refusal that `?` passes on is answered as it was
+pub passed-on : {T : Type 0} (f : T → Answer) (r : Result T Refusal) (e : Refusal) → IsErrAnd r (λ x. x ≡ e) → answered f r ≡ refusal e
+passed-on f (Ok x) e h = absurd h
+passed-on f (Err x) e h = ap refusal h

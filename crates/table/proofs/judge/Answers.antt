@@ -1,69 +1,55 @@
--- `table::judge` meets its contract: each way out is a way of specs/Ways. Assumes nothing.
-use mathlib.Core.Path.{ap, ◌∙◌}
-use Prim.Native.Nat.{◌≤◌}
-use native.Mathlib.Omega.{arith}
-use lib.ListN.{length}
-use Rattle.lists.specs.Lowest.{lowest}
+-- `table::judge` meets its contract: each way out is a way of crate probes, specs/Ways. Assumes nothing.
+use Rattle.std.proofs.Common.{◌≡◌, List, ℕ, arith, ap}
+use Rattle.lists.proofs.Searches.{found-at, none-at}
 use Rattle.table.specs.declared.Table.{Table}
-use Rattle.probes.specs.Verdict.{bad_period, unchained}
-use Rattle.probes.specs.Ways.{in-range, bad-length-is, way-differ, way-many, way-period, way-length, way-chain, way-rows, way-done}
+use Rattle.probes.specs.Table.{shortest, longest, rows}
+use Rattle.probes.specs.Verdict.{bad_period, bad_length, unchained}
+use Rattle.probes.specs.Ways.{in-range, way-differ, way-many, way-period, way-length, way-chain, way-rows, way-done}
+use Rattle.probes.proofs.Folding.{bad-period-at, bad-lengths-at}
 use Rattle.table.proofs.judge.Goals as goal
 
-pub returns-then-n-lengths : goal.returns-then-n-lengths
-returns-then-n-lengths c =
-    let Ts = c.args.periods.now in
-    let ps = c.args.lengths.now in
-    c.refused.ensures ∙ way-differ Ts ps c.if-n-lengths.true
+shortest-of : (Ts : List ℕ) (t : Table) → t ≡ record { shortest = shortest Ts; longest = longest Ts; rows = rows Ts } → t.shortest ≡ shortest Ts
+shortest-of Ts t e = ap (λ (t : Table). t.shortest) e
 
-pub returns-then-n-gt-PROBES : goal.returns-then-n-gt-PROBES
-returns-then-n-gt-PROBES c =
-    let Ts = c.args.periods.now in
-    let ps = c.args.lengths.now in
-    c.refused-then-n-gt-PROBES.ensures ∙ way-many Ts ps (omega arith) (omega arith)
+pub returns-then-periods-lengths : goal.returns-then-periods-lengths
+returns-then-periods-lengths c = way-differ _ _ c.if-periods-lengths.true
 
-pub returns-then-i-n : goal.returns-then-i-n
-returns-then-i-n c =
-    let Ts = c.args.periods.now in
-    let ps = c.args.lengths.now in
-    c.at_place.ensures ∙ way-period Ts ps (omega arith) (omega arith) _ c.bad_period-i.ensures (omega arith)
+pub returns-then-periods-gt-PROBES : goal.returns-then-periods-gt-PROBES
+returns-then-periods-gt-PROBES c = way-many _ _ (omega arith) (omega arith)
 
-pub returns-then-j-n : goal.returns-then-j-n
-returns-then-j-n c =
-    let Ts = c.args.periods.now in
-    let ps = c.args.lengths.now in
-    let range : length Ts ≤ lowest (bad_period Ts) (length Ts) = omega (arith, c.bad_period-i.ensures) in
-    let found = bad-length-is Ts ps c.bad_length-j.result _ (ap (λ (t : Table). t.shortest) c.of-table.ensures) (omega arith) c.bad_length-j.ensures in
-    c.at_place-then-j-n.ensures ∙ way-length Ts ps (omega arith) (omega arith) range _ found (omega arith)
+pub returns-in-Some : goal.returns-in-Some
+returns-in-Some c =
+    let at = found-at (bad_period c.args.periods.now) _ _ _ (bad-period-at _ _ c.bad_period.ensures) c.in-Some.is in
+    way-period _ _ (omega arith) (omega arith) _ at.1 at.0
 
-pub unchained-k-requires : goal.unchained-k-requires
-unchained-k-requires c =
-    let Ts = c.args.periods.now in
-    in-range Ts (omega (arith, c.bad_period-i.ensures))
+pub returns-in-Some-bad_length : goal.returns-in-Some-bad_length
+returns-in-Some-bad_length c =
+    let range = none-at (bad_period c.args.periods.now) _ _ (bad-period-at _ _ c.bad_period.ensures) c.in_default.is in
+    let at = found-at (bad_length (shortest c.args.periods.now) c.args.lengths.now) _ _ _ (bad-lengths-at _ _ _ _ (shortest-of _ _ c.of-table.ensures) c.if-periods-lengths.false c.bad_length.ensures) c.in-Some-bad_length.is in
+    way-length _ _ (omega arith) (omega arith) range _ at.1 at.0
 
-pub returns-then-k-n : goal.returns-then-k-n
-returns-then-k-n c =
-    let Ts = c.args.periods.now in
-    let ps = c.args.lengths.now in
-    let range : length Ts ≤ lowest (bad_period Ts) (length Ts) = omega (arith, c.bad_period-i.ensures) in
-    let found = bad-length-is Ts ps c.bad_length-j.result _ (ap (λ (t : Table). t.shortest) c.of-table.ensures) (omega arith) c.bad_length-j.ensures in
-    c.at_place-then-k-n.ensures ∙ way-chain Ts ps (omega arith) (omega arith) range (omega arith) _ c.unchained-k.ensures (omega arith)
+pub unchained-requires : goal.unchained-requires
+unchained-requires c = in-range _ (none-at (bad_period c.args.periods.now) _ _ (bad-period-at _ _ c.bad_period.ensures) c.in_default.is)
 
-pub returns-then-h-gt-ROWS : goal.returns-then-h-gt-ROWS
-returns-then-h-gt-ROWS c =
-    let Ts = c.args.periods.now in
-    let ps = c.args.lengths.now in
-    let range : length Ts ≤ lowest (bad_period Ts) (length Ts) = omega (arith, c.bad_period-i.ensures) in
-    let found = bad-length-is Ts ps c.bad_length-j.result _ (ap (λ (t : Table). t.shortest) c.of-table.ensures) (omega arith) c.bad_length-j.ensures in
-    let chain : length Ts ≤ lowest (unchained Ts) (length Ts) = omega (arith, c.unchained-k.ensures) in
+pub returns-in-Some-unchained : goal.returns-in-Some-unchained
+returns-in-Some-unchained c =
+    let range = none-at (bad_period c.args.periods.now) _ _ (bad-period-at _ _ c.bad_period.ensures) c.in_default.is in
+    let lengths = none-at (bad_length (shortest c.args.periods.now) c.args.lengths.now) _ _ (bad-lengths-at _ _ _ _ (shortest-of _ _ c.of-table.ensures) c.if-periods-lengths.false c.bad_length.ensures) c.in_default-bad_length.is in
+    let at = found-at (unchained c.args.periods.now) _ _ _ c.unchained.ensures c.in-Some-unchained.is in
+    way-chain _ _ (omega arith) (omega arith) range lengths _ at.1 at.0
+
+pub returns-then-table-gt-ROWS : goal.returns-then-table-gt-ROWS
+returns-then-table-gt-ROWS c =
+    let range = none-at (bad_period c.args.periods.now) _ _ (bad-period-at _ _ c.bad_period.ensures) c.in_default.is in
+    let lengths = none-at (bad_length (shortest c.args.periods.now) c.args.lengths.now) _ _ (bad-lengths-at _ _ _ _ (shortest-of _ _ c.of-table.ensures) c.if-periods-lengths.false c.bad_length.ensures) c.in_default-bad_length.is in
+    let chain = none-at (unchained c.args.periods.now) _ _ c.unchained.ensures c.in_default-unchained.is in
     let h = ap (λ (t : Table). t.rows) c.of-table.ensures in
-    c.refused-then-h-gt-ROWS.ensures ∙ way-rows Ts ps (omega arith) (omega arith) range (omega arith) chain (omega arith)
+    way-rows _ _ (omega arith) (omega arith) range lengths chain (omega arith)
 
 pub returns : goal.returns
 returns c =
-    let Ts = c.args.periods.now in
-    let ps = c.args.lengths.now in
-    let range : length Ts ≤ lowest (bad_period Ts) (length Ts) = omega (arith, c.bad_period-i.ensures) in
-    let found = bad-length-is Ts ps c.bad_length-j.result _ (ap (λ (t : Table). t.shortest) c.of-table.ensures) (omega arith) c.bad_length-j.ensures in
-    let chain : length Ts ≤ lowest (unchained Ts) (length Ts) = omega (arith, c.unchained-k.ensures) in
+    let range = none-at (bad_period c.args.periods.now) _ _ (bad-period-at _ _ c.bad_period.ensures) c.in_default.is in
+    let lengths = none-at (bad_length (shortest c.args.periods.now) c.args.lengths.now) _ _ (bad-lengths-at _ _ _ _ (shortest-of _ _ c.of-table.ensures) c.if-periods-lengths.false c.bad_length.ensures) c.in_default-bad_length.is in
+    let chain = none-at (unchained c.args.periods.now) _ _ c.unchained.ensures c.in_default-unchained.is in
     let h = ap (λ (t : Table). t.rows) c.of-table.ensures in
-    c.done.ensures ∙ way-done Ts ps (omega arith) (omega arith) range (omega arith) chain (omega arith)
+    way-done _ _ (omega arith) (omega arith) range lengths chain (omega arith)

@@ -1,42 +1,33 @@
 -- `table::judge_list` meets its contract: the ways out of crate probes, proofs/Composing. Assumes nothing.
-use mathlib.Core.Path.{◌∙◌}
-use native.Mathlib.Omega.{arith}
+use Rattle.std.proofs.Common.{refl, arith, ◌∙◌}
+use Rattle.lists.proofs.Searches.{found-at, none-at}
+use Rattle.words.proofs.Refused.{refusal-above, passed-on}
+use Rattle.probes.specs.Verdict.{late}
+use Rattle.probes.proofs.Folding.{late-at}
 use Rattle.probes.proofs.Laws.{sound-gives}
 use Rattle.probes.proofs.Composing.{list_differ, list-refused, list-late, list_done, zero-sound}
 use Rattle.table.proofs.judge_list.Goals as goal
 
-pub returns-then-n-starts : goal.returns-then-n-starts
-returns-then-n-starts c =
-    let Ts = c.args.periods.now in
-    let ps = c.args.lengths.now in
-    let ss = c.args.starts.now in
-    c.refused.ensures ∙ list_differ Ts ps ss c.if-n-starts.true
+pub returns-then-periods-starts : goal.returns-then-periods-starts
+returns-then-periods-starts c = list_differ _ _ _ c.if-periods-starts.true
 
-pub returns-then-number-ne0 : goal.returns-then-number-ne0
-returns-then-number-ne0 c =
-    let Ts = c.args.periods.now in
-    let ps = c.args.lengths.now in
-    let ss = c.args.starts.now in
-    list-refused Ts ps ss (omega arith) _ c.judge-answer.ensures c.if-number-ne0.true
+pub returns-in_err-judge : goal.returns-in_err-judge
+returns-in_err-judge c =
+    passed-on _ _ _ c.from_residual.ensures.1
+    ∙ list-refused _ _ _ c.if-periods-starts.false _ c.in_err-judge.ensures (λ z. omega (arith, refusal-above c.in_err-judge.field-0.0))
 
-pub at_place-requires : goal.at_place-requires
-at_place-requires c =
-    let Ts = c.args.periods.now in
-    let ps = c.args.lengths.now in
-    let ss = c.args.starts.now in
-    let s = sound-gives Ts ps (zero-sound Ts ps _ c.judge-answer.ensures c.if-number-ne0.false) in
-    omega (arith, s.few)
+pub overflow_cast-result : goal.overflow_cast-result
+overflow_cast-result c =
+    let s = sound-gives _ _ (zero-sound _ _ _ c.in_ok-judge.ensures refl) in
+    let at = found-at (late c.args.periods.now c.args.starts.now) _ _ _ (late-at _ _ _ (omega arith) c.late.ensures) c.in-Some.is in
+    omega (arith, s.few, at.0)
 
-pub returns-then-i-n : goal.returns-then-i-n
-returns-then-i-n c =
-    let Ts = c.args.periods.now in
-    let ps = c.args.lengths.now in
-    let ss = c.args.starts.now in
-    c.at_place.ensures ∙ list-late Ts ps ss (omega arith) _ _ c.judge-answer.ensures c.if-number-ne0.false c.late-i.ensures (omega arith)
+pub returns-in-Some : goal.returns-in-Some
+returns-in-Some c =
+    let at = found-at (late c.args.periods.now c.args.starts.now) _ _ _ (late-at _ _ _ (omega arith) c.late.ensures) c.in-Some.is in
+    list-late _ _ _ c.if-periods-starts.false _ _ c.in_ok-judge.ensures refl at.1 at.0
 
-pub returns : goal.returns
-returns c =
-    let Ts = c.args.periods.now in
-    let ps = c.args.lengths.now in
-    let ss = c.args.starts.now in
-    c.done.ensures ∙ list_done Ts ps ss (omega arith) _ _ c.judge-answer.ensures c.if-number-ne0.false c.late-i.ensures (omega arith)
+pub returns-in-None : goal.returns-in-None
+returns-in-None c =
+    let none = none-at (late c.args.periods.now c.args.starts.now) _ _ (late-at _ _ _ (omega arith) c.late.ensures) c.in-None.is in
+    list_done _ _ _ c.if-periods-starts.false _ _ c.in_ok-judge.ensures refl refl none
