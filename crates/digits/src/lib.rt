@@ -32,27 +32,19 @@ pub fn decompose(ratios: [u32; Slot::PLACES], v: u32) -> [u32; Slot::PLACES]
 {
     let mut d = [0u32; Slot::PLACES];
     let mut rest = v;
-    let mut place: usize = 0;
-    while place < Slot::PLACES {
-        let b = ratios[place];
+    for (place, b) in ratios.iter().enumerate() {
         d[place] = rest % b;
-        rest = rest / b;
-        place += 1;
+        rest /= b;
     }
     d
 }
 
 // The same twelve from the other end.
-pub fn reverse(d: [u32; Slot::PLACES]) -> [u32; Slot::PLACES]
+pub fn reverse(mut d: [u32; Slot::PLACES]) -> [u32; Slot::PLACES]
     ensures { result ≡ reverse d }
 {
-    let mut e = [0u32; Slot::PLACES];
-    let mut i: usize = 0;
-    while i < Slot::PLACES {
-        e[i] = d[Slot::PLACES - 1 - i];
-        i += 1;
-    }
-    e
+    d.reverse();
+    d
 }
 
 // The number that the digits stand for.
@@ -62,10 +54,8 @@ pub fn compose(ratios: [u32; Slot::PLACES], d: [u32; Slot::PLACES]) -> u32
     ensures { result ≡ value_of ratios d }
 {
     let mut v: u32 = 0;
-    let mut i = Slot::PLACES;
-    while 0 < i {
-        i -= 1;
-        v = v * ratios[i] + d[i];
+    for place in (0..Slot::PLACES).rev() {
+        v = v * ratios[place] + d[place];
     }
     v
 }

@@ -1,7 +1,9 @@
-// Corners and starts, one probe at a time.
+// The grid of a table: corners and starts, one probe at a time.
 #![tactic(auto)]
 
-ghost use Rattle.std.specs.Prelude.{◌≡◌, ◌<◌, length, get_or};
+ghost use Rattle.std.specs.Prelude.{◌≡◌, ℕ, ◌≤◌, ◌<◌, length, get_or};
+ghost use Rattle.lists.specs.Harmonic.{Harmonic};
+ghost use Rattle.probes.specs.Table.{most_period, most_rows, rows, height};
 ghost use Rattle.chain.specs.Corners.{corner_x, corner_y, start_of};
 ghost use Rattle.chain.specs.CornerLaws.{OnGrid};
 ghost use Rattle.grid.specs.Prepared.{Prepared};
@@ -16,36 +18,64 @@ pub struct Corner {
     pub y: u32,
 }
 
-// The corner of start s of probe i.
-pub fn corner_of(periods: &[u32], table: Table, chain: Chain, i: usize, s: u32) -> Corner
-    requires prepared { Prepared periods.now table chain }
-    requires i_in_bounds { i < length periods.now }
-    requires s_bound { s < get_or periods.now i 0 }
-    ensures { result ≡ record { x = corner_x periods.now s; y = corner_y periods.now (get_or periods.now i 0) s } }
-{
-    let t = periods[i];
-    let w = table.shortest;
-    let m = table.longest;
-    let h = m / t;
-    let slots = t / w;
-    let v = s / w;
-    let j = chain.flip(slots, v);
-    Corner { x: s % w, y: h * j }
+// Periods that divide one another, with their w, M and H and their chain of ratios.
+#[derive(Clone, Copy)]
+pub struct Grid<'a> {
+    pub periods: &'a [u32],
+    pub table: Table,
+    pub chain: Chain,
+    pub ghost prepared: { Prepared periods.now table chain },
 }
 
-// The start of the corner x, y of probe i.
-pub fn start_of(periods: &[u32], table: Table, chain: Chain, i: usize, x: u32, y: u32) -> u32
-    requires prepared { Prepared periods.now table chain }
-    requires i_in_bounds { i < length periods.now }
-    requires on_grid { OnGrid periods.now (get_or periods.now i 0) x y }
-    ensures { result ≡ start_of periods.now (get_or periods.now i 0) x y }
-{
-    let t = periods[i];
-    let w = table.shortest;
-    let m = table.longest;
-    let h = m / t;
-    let slots = t / w;
-    let j = y / h;
-    let v = chain.unflip(slots, j);
-    x + w * v
+impl<'a> Grid<'a> {
+    // The grid of these periods.
+    pub fn of(periods: &'a [u32]) -> Grid<'a>
+        requires harmonic { Harmonic periods.now }
+        requires most { (i : ℕ) → i < length periods.now → get_or periods.now i 0 ≤ most_period }
+        requires low { rows periods.now ≤ most_rows }
+        ensures { result.periods.now ≡ periods.now }
+    {
+        Grid {
+            periods,
+            table: Table::of(periods),
+            chain: Chain::of(periods),
+        }
+    }
+
+    // The height of a read of probe i.
+    pub fn height(&self, i: usize) -> u32
+        requires { i < length self.now.periods.now }
+        ensures { result ≡ height self.now.periods.now (get_or self.now.periods.now i 0) }
+    {
+        self.table.longest / self.periods[i]
+    }
+
+    // The corner of start s of probe i.
+    pub fn corner_of(&self, i: usize, s: u32) -> Corner
+        requires i_in_bounds { i < length self.now.periods.now }
+        requires s_bound { s < get_or self.now.periods.now i 0 }
+        ensures { result ≡ record { x = corner_x self.now.periods.now s; y = corner_y self.now.periods.now (get_or self.now.periods.now i 0) s } }
+    {
+        let w = self.table.shortest;
+        let slots = self.periods[i] / w;
+        let v = s / w;
+        let j = self.chain.flip(slots, v);
+        Corner {
+            x: s % w,
+            y: self.height(i) * j,
+        }
+    }
+
+    // The start of the corner x, y of probe i.
+    pub fn start_of(&self, i: usize, x: u32, y: u32) -> u32
+        requires i_in_bounds { i < length self.now.periods.now }
+        requires on_grid { OnGrid self.now.periods.now (get_or self.now.periods.now i 0) x y }
+        ensures { result ≡ start_of self.now.periods.now (get_or self.now.periods.now i 0) x y }
+    {
+        let w = self.table.shortest;
+        let slots = self.periods[i] / w;
+        let j = y / self.height(i);
+        let v = self.chain.unflip(slots, j);
+        x + w * v
+    }
 }

@@ -1,5 +1,5 @@
 // One probe and a tick: whether it holds the tick, and when it starts next.
-#![tactic(auto)]
+#![tactic(auto, unfolding(crate::specs::Moments::phase, crate::specs::Moments::candidate))]
 
 ghost use Rattle.std.specs.Prelude.{◌≡◌, ◌≤◌, ◌<◌};
 ghost use Rattle.words.specs.Ticks.{last_tick};
@@ -20,11 +20,7 @@ pub fn holds(period: u32, length: u32, start: u32, tick: u64) -> bool
     requires { 0 < period }
     ensures { result ≡ holds period length start tick }
 {
-    if tick < start as u64 {
-        return false;
-    }
-    let since = phase(period, start, tick);
-    since < length
+    start as u64 <= tick && phase(period, start, tick) < length
 }
 
 // The first start of one probe from the tick on.
@@ -36,9 +32,8 @@ pub fn first_from(period: u32, start: u32, tick: u64) -> u64
     if tick <= start as u64 {
         return start as u64;
     }
-    let since = phase(period, start, tick);
-    if since == 0 {
-        return tick;
+    match phase(period, start, tick) {
+        0 => tick,
+        since => tick + (period - since) as u64,
     }
-    tick + (period - since) as u64
 }

@@ -7,18 +7,8 @@ ghost use Rattle.probes.specs.Table.{most_period};
 ghost use Rattle.probes.specs.Passed.{Passes};
 ghost use Rattle.pairs.specs.Probes.{probe_at, Ordered, apart_of, tick_of};
 
-// d: the remainder of u - s by t, from 0 up.
-fn lag(t: u32, s: u32, u: u32) -> u32
-    requires s_lt_t { s < t }
-    requires t_le_most_period { t ≤ most_period }
-    requires u_lt_most_period { u < most_period }
-    ensures { result ≡ lag t s u }
-{
-    (u + (t - s)) % t
-}
-
 // One probe of a list: its period, the ticks that its read takes, and its start.
-#[derive(Drop)]
+#[derive(Clone, Copy)]
 struct Probe {
     period: u32,
     width: u32,
@@ -39,44 +29,75 @@ impl Probe {
     }
 }
 
-// Whether two probes never meet, the shorter period first: the published condition.
-fn apart(one: Probe, other: Probe) -> bool
-    requires { Ordered one other }
-    ensures { result ≡ apart_of one other }
-{
-    let t = one.period;
-    let q = one.width;
-    let r = other.width;
-    let d = lag(t, one.start, other.start);
-    if q <= d {
-        return d + r <= t;
-    }
-    false
+// Two probes, the one with the shorter period first.
+#[derive(Clone, Copy)]
+struct Pair {
+    one: Probe,
+    other: Probe,
+    ghost ordered: { Ordered one other },
 }
 
-// The first tick that they share where they are not apart: the longer one's read begins in a read, or runs into the next;
-// or the shorter one starts during the longer one's first read, or meets its second.
-fn shared_tick(one: Probe, other: Probe) -> u32
-    requires { Ordered one other }
-    ensures { result ≡ tick_of one other }
-{
-    let t = one.period;
-    let q = one.width;
-    let s = one.start;
-    let r = other.width;
-    let u = other.start;
-    let v = other.period;
-    let d = lag(t, s, u);
-    if s <= u {
-        if d < q {
-            return u;
+impl Pair {
+    // Probes i and j.
+    fn at(periods: &[u32], lengths: &[u32], starts: &[u32], i: usize, j: usize) -> Self
+        requires passes { Passes periods.now lengths.now starts.now }
+        requires i_in_bounds { i < length periods.now }
+        requires j_in_bounds { j < length periods.now }
+        ensures apart { apart_of result.one result.other ≡ apart_at periods.now lengths.now starts.now i j }
+        ensures tick { tick_of result.one result.other ≡ tick_at periods.now lengths.now starts.now i j }
+    {
+        let one = Probe::at(periods, lengths, starts, i);
+        let other = Probe::at(periods, lengths, starts, j);
+        if one.period <= other.period {
+            Pair { one, other }
+        } else {
+            Pair {
+                one: other,
+                other: one,
+            }
         }
-        return u + (t - d);
     }
-    if s < u + r {
-        return s;
+
+    // d: the remainder of the second start less the first by the shorter period, from 0 up.
+    #[tactic(auto, unfolding(wire::specs::Meeting::lag))]
+    fn lag(&self) -> u32
+        ensures value { result ≡ lag self.now.one.period self.now.one.start self.now.other.start }
+        ensures below { result < self.now.one.period }
+    {
+        let Pair { one, other } = self;
+        (other.start + (one.period - one.start)) % one.period
     }
-    u + v
+
+    // Whether they never meet: the published condition.
+    #[tactic(auto, unfolding(wire::specs::Meeting::apart))]
+    fn apart(&self) -> bool
+        ensures { result ≡ apart_of self.now.one self.now.other }
+    {
+        let Pair { one, other } = self;
+        let d = self.lag();
+        one.width <= d && d + other.width <= one.period
+    }
+
+    // The first tick that they share where they are not apart: the longer one's read begins in a read, or runs into the next;
+    // or the shorter one starts during the longer one's first read, or meets its second.
+    #[tactic(auto, unfolding(wire::specs::Meeting::shared_tick))]
+    fn shared_tick(&self) -> u32
+        ensures { result ≡ tick_of self.now.one self.now.other }
+    {
+        let Pair { one, other } = self;
+        let d = self.lag();
+        if one.start <= other.start {
+            if d < one.width {
+                other.start
+            } else {
+                other.start + (one.period - d)
+            }
+        } else if one.start < other.start + other.width {
+            one.start
+        } else {
+            other.start + other.period
+        }
+    }
 }
 
 // Whether probes i and j never meet: d is taken by the shorter period.
@@ -86,12 +107,7 @@ pub fn apart_at(periods: &[u32], lengths: &[u32], starts: &[u32], i: usize, j: u
     requires j_in_bounds { j < length periods.now }
     ensures { result ≡ apart_at periods.now lengths.now starts.now i j }
 {
-    let one = Probe::at(periods, lengths, starts, i);
-    let other = Probe::at(periods, lengths, starts, j);
-    if one.period <= other.period {
-        return apart(one, other);
-    }
-    apart(other, one)
+    Pair::at(periods, lengths, starts, i, j).apart()
 }
 
 // Their first shared tick.
@@ -101,10 +117,5 @@ pub fn tick_at(periods: &[u32], lengths: &[u32], starts: &[u32], i: usize, j: us
     requires j_in_bounds { j < length periods.now }
     ensures { result ≡ tick_at periods.now lengths.now starts.now i j }
 {
-    let one = Probe::at(periods, lengths, starts, i);
-    let other = Probe::at(periods, lengths, starts, j);
-    if one.period <= other.period {
-        return shared_tick(one, other);
-    }
-    shared_tick(other, one)
+    Pair::at(periods, lengths, starts, i, j).shared_tick()
 }

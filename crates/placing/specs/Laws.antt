@@ -1,4 +1,5 @@
 -- LAWS FOR PLACING ONE PROBE.
+--     found_bin             the search gives the first row of the sub-bin of first fit
 --     row_in, row_out       the row that the search gives, and whether a sub-bin had room
 --     row-grid, row_fits    it is a corner of the grid, and its h rows are rows
 --     row-tried, row-stuck  what placing does, and what it leaves
@@ -17,6 +18,7 @@ use Rattle.probes.specs.Extremes.{shortest-least}
 use Rattle.probes.specs.Heights.{height-positive, rows-slots, slots-times}
 use Rattle.flipping.specs.declared.Chain.{Chain}
 use Rattle.chain.specs.CornerLaws.{OnGrid}
+use Rattle.grid.specs.Laws.{shortest-is}
 use Rattle.stack.specs.Stack.{raised, Fits, bins, lowest_bin}
 use Rattle.stack.specs.FirstFit.{bin_of, start_in}
 use Rattle.stack.specs.Fitting.{lowest-bin}
@@ -56,6 +58,9 @@ module _ (Ts ps : List ℕ) (t : Table) (c : Chain) (ss fs : List ℕ) (i : ℕ)
   pub row-bin : (y : ℕ) → y ≡ lowest_bin fs (height Ts (get_or Ts i 0)) (get_or ps i 0) (shortest Ts) * height Ts (get_or Ts i 0) → y ≡ bin_of Ts ps i fs * height Ts (get_or Ts i 0)
   unfolding bin_of
   row-bin y e = e
+
+  pub found_bin : (h y : ℕ) → h ≡ height Ts (get_or Ts i 0) → lowest_bin fs h (get_or ps i 0) t.shortest * h ≡ y → y ≡ bin_of Ts ps i fs * height Ts (get_or Ts i 0)
+  found_bin h y e f = row-bin y (sym (rw (e, shortest-is Ts t c g.prepared) at f))
 
   module _ (y : ℕ) (e : y ≡ bin_of Ts ps i fs * height Ts (get_or Ts i 0)) where
     pub row_in : y < length fs → bin_of Ts ps i fs < bins fs (height Ts (get_or Ts i 0))

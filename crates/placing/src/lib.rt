@@ -3,33 +3,19 @@
 
 ghost use Rattle.placing.specs.Placing.{Ready, Tried};
 
-use flipping::Chain;
-use table::Table;
+use grid::Grid;
 
 // Puts probe i into its lowest sub-bin with room: its start is written and its rows are raised. Where there is none, nothing changes.
-pub fn place(
-    periods: &[u32],
-    lengths: &[u32],
-    table: Table,
-    chain: Chain,
-    i: usize,
-    starts: &mut [u32],
-    fills: &mut [u32],
-) -> bool
-    requires { Ready periods.now lengths.now table chain starts.old fills.old i }
-    ensures { Tried periods.now lengths.now starts.old fills.old i result starts.new fills.new }
+pub fn place(grid: &Grid, lengths: &[u32], i: usize, starts: &mut [u32], fills: &mut [u32]) -> bool
+    requires { Ready grid.now.periods.now lengths.now grid.now.table grid.now.chain starts.old fills.old i }
+    ensures { Tried grid.now.periods.now lengths.now starts.old fills.old i result starts.new fills.new }
 {
-    let t = periods[i];
     let p = lengths[i];
-    let w = table.shortest;
-    let m = table.longest;
-    let h = (m / t) as usize;
-    let y = rows::lowest_row(fills, h, p, w);
-    if fills.len() <= y {
+    let h = grid.height(i) as usize;
+    let Some(y) = rows::lowest_row(fills, h, p, grid.table.shortest) else {
         return false;
-    }
-    let x = fills[y];
-    starts[i] = grid::start_of(periods, table, chain, i, x, y as u32);
+    };
+    starts[i] = grid.start_of(i, fills[y], y as u32);
     rows::raise_rows(fills, y, h, p);
     true
 }

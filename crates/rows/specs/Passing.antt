@@ -1,4 +1,4 @@
--- A COLUMN OF ROWS CHANGED IN PLACE, FROM ROW 0 UP. What the loops of src/ know that clear the rows or raise them.
+-- A COLUMN OF ROWS CHANGED IN PLACE, FROM ROW 0 UP. What the loop of src/ knows that raises the rows.
 --     passed f rows i            the first i rows changed by f, the others as they were
 --     Passing f rows now i       a loop has passed i rows: the column is now what `passed` says
 --     passing-start              before the first row nothing is changed

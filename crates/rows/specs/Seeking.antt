@@ -6,10 +6,12 @@
 --     seeking-next             a sub-bin without room is passed
 --     seeking-found            a sub-bin with room is the lowest: the search ends at its first row
 --     seeking-none             past the last row no sub-bin has room
+--     seeking-past             .. and the number of sub-bins is found, which stands for none
+--     FirstRow rows h p w r    what the search answers: r is the first row of the lowest sub-bin with room, or none
 -- Edges: with no rows the search ends at row 0, the number of rows.
 -- Not said here: that the rows of a sub-bin have one fill, so that its first row speaks for all (crate stack, specs/Rows).
 -- Assumes nothing.
-use Rattle.std.specs.Prelude.{◌≡◌, List, ℕ, ◌+◌, ◌*◌, ◌≤◌, ◌<◌, length, get_or}
+use Rattle.std.specs.Prelude.{◌≡◌, List, ℕ, ◌+◌, ◌*◌, ◌≤◌, ◌<◌, length, get_or, Option, MatchOption}
 use Rattle.std.proofs.Common.{sym, ◌∙◌, zero-mul}
 use Rattle.std.proofs.Math.Path.{ap}
 use Rattle.std.specs.Int.{◌∣◌}
@@ -20,6 +22,9 @@ use Rattle.lists.specs.Pick.{Tells}
 use Rattle.lists.specs.Lowest.{Searching, searching-start, searching-next, searching-found, searching-none}
 use Rattle.lists.specs.Telling.{tells-le, tells-true, tells-false}
 use Rattle.stack.specs.Stack.{fits, bins, lowest_bin}
+
+abbrev pub FirstRow : List ℕ → ℕ → ℕ → ℕ → Option ℕ → Type 0
+FirstRow rows h p w r = MatchOption r (lowest_bin rows h p w * h ≡ length rows) (λ y. (y < length rows) × (lowest_bin rows h p w * h ≡ y))
 
 pub record Seeking (rows : List ℕ) (h p w y : ℕ) : Type 0 where
   pub bin : ℕ
@@ -79,3 +84,9 @@ module _ (rows : List ℕ) (h p w y : ℕ) (z : 0 < h) (d : h ∣ length rows) (
               let o : s.bin + 1 ≤ bins rows h = omega arith in
               absurd (omega (arith, mul-le-mul_right h o, all-bins, s.first-row))
           by (no b) = omega arith
+
+  pub seeking-past : length rows ≤ y → lowest_bin rows h p w * h ≡ length rows
+  seeking-past l = sym (seeking-none l) ∙ end
+    where
+      end : y ≡ length rows
+      end = omega (arith, mul-le-mul_right h s.tried.within, all-bins, s.first-row)

@@ -1,6 +1,6 @@
--- `digits::decompose` meets its contract. The loop's invariant: the first digits, as many as place says, stand in d, and rest has the others. The measure is what is left of the twelve.
+-- `digits::decompose` meets its contract.
 -- Assumes nothing.
-use native.Mathlib.Omega.{arith}
+use Rattle.std.proofs.Common.{arith}
 use Rattle.chain.specs.Passes.{decomposing-next, decomposing-done, positive-at}
 use Rattle.digits.proofs.decompose.Goals as goal
 

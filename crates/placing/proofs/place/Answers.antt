@@ -1,77 +1,33 @@
 -- `placing::place` meets its contract: the lowest sub-bin with room, its start, and its rows raised; or nothing. Assumes nothing.
-use native.Mathlib.Omega.{arith}
-use Rattle.grid.specs.Laws.{period-positive, tall-is, shortest-is}
-use Rattle.placing.specs.Laws.{read_small, tall-small, tall-positive, tall-divides, row-bin, row_fits, row-grid, row-tried, row-stuck}
-use borrow.Author.Rules.{rules}
+use Rattle.std.proofs.Common.{arith}
+use Rattle.placing.specs.Laws.{read_small, tall-positive, tall-divides, found_bin, row_fits, row-grid, row-tried, row-stuck}
 use Rattle.placing.proofs.place.Goals as goal
 
-pub nonzero_div-h : goal.nonzero_div-h
-nonzero_div-h c =
-    let a = c.args in
-    let g = c.requires in
-    let tall = tall-is a.periods.now a.table a.chain g.prepared a.i g.probe in
-    let w = shortest-is a.periods.now a.table a.chain g.prepared in
-    period-positive a.periods.now a.table a.chain g.prepared a.i g.probe
+pub lowest_row-requires-clause-h_nonzero : goal.lowest_row-requires-clause-h_nonzero
+lowest_row-requires-clause-h_nonzero c = rw c.height-h.ensures (tall-positive _ _ _ _ _ _ _ c.requires)
 
-pub overflow_cast-h : goal.overflow_cast-h
-overflow_cast-h c =
-    let a = c.args in
-    let g = c.requires in
-    let tall = tall-is a.periods.now a.table a.chain g.prepared a.i g.probe in
-    let w = shortest-is a.periods.now a.table a.chain g.prepared in
-    let small = tall-small a.periods.now a.lengths.now a.table a.chain a.starts.now a.fills.now a.i g in
-    omega arith
+pub lowest_row-requires-clause-h : goal.lowest_row-requires-clause-h
+lowest_row-requires-clause-h c = rw c.height-h.ensures (tall-divides _ _ _ _ _ _ _ c.requires)
 
-pub lowest_row-y-requires : goal.lowest_row-y-requires
-lowest_row-y-requires c =
-    let a = c.args in
-    let g = c.requires in
-    let tall = tall-is a.periods.now a.table a.chain g.prepared a.i g.probe in
-    let w = shortest-is a.periods.now a.table a.chain g.prepared in
-    record { h_nonzero = rw tall (tall-positive a.periods.now a.lengths.now a.table a.chain a.starts.now a.fills.now a.i g); h = rw tall (tall-divides a.periods.now a.lengths.now a.table a.chain a.starts.now a.fills.now a.i g); p_le_w = rw w g.short }
+pub returns-in_default : goal.returns-in_default
+returns-in_default c =
+    let e = found_bin _ _ _ _ _ _ _ c.requires _ _ c.height-h.ensures c.in_default.ensures in
+    row-stuck _ _ _ _ _ _ _ c.requires _ e (omega arith)
 
-pub returns-then-fills-y : goal.returns-then-fills-y
-returns-then-fills-y c =
-    let a = c.args in
-    let g = c.requires in
-    let tall = tall-is a.periods.now a.table a.chain g.prepared a.i g.probe in
-    let w = shortest-is a.periods.now a.table a.chain g.prepared in
-    let y = row-bin a.periods.now a.lengths.now a.table a.chain a.starts.now a.fills.now a.i g c.lowest_row-y.result (rw (tall, w) at c.lowest_row-y.ensures) in
-    row-stuck a.periods.now a.lengths.now a.table a.chain a.starts.now a.fills.now a.i g c.lowest_row-y.result y c.if-fills-y.true
+pub start_of-requires-clause-on_grid : goal.start_of-requires-clause-on_grid
+start_of-requires-clause-on_grid c =
+    let e = found_bin _ _ _ _ _ _ _ c.requires _ _ c.height-h.ensures c.in-Some.ensures.1 in
+    row-grid _ _ _ _ _ _ _ c.requires _ e c.in-Some.ensures.0
 
-pub overflow_cast-y : goal.overflow_cast-y
-overflow_cast-y c =
-    let a = c.args in
-    let g = c.requires in
-    let tall = tall-is a.periods.now a.table a.chain g.prepared a.i g.probe in
-    let w = shortest-is a.periods.now a.table a.chain g.prepared in
-    let few = g.prepared.low in
-    let long = g.long in
-    omega arith
+pub raise_rows-requires-clause-h_in_bounds : goal.raise_rows-requires-clause-h_in_bounds
+raise_rows-requires-clause-h_in_bounds c =
+    let e = found_bin _ _ _ _ _ _ _ c.requires _ _ c.height-h.ensures c.in-Some.ensures.1 in
+    rw c.height-h.ensures (row_fits _ _ _ _ _ _ _ c.requires _ e c.in-Some.ensures.0)
 
-pub start_of-requires : goal.start_of-requires
-start_of-requires c =
-    let a = c.args in
-    let g = c.requires in
-    let tall = tall-is a.periods.now a.table a.chain g.prepared a.i g.probe in
-    let w = shortest-is a.periods.now a.table a.chain g.prepared in
-    let y = row-bin a.periods.now a.lengths.now a.table a.chain a.starts.now a.fills.now a.i g c.lowest_row-y.result (rw (tall, w) at c.lowest_row-y.ensures) in
-    record { prepared = g.prepared; i_in_bounds = g.probe; on_grid = row-grid a.periods.now a.lengths.now a.table a.chain a.starts.now a.fills.now a.i g c.lowest_row-y.result y c.if-fills-y.false }
-
-pub raise_rows-requires : goal.raise_rows-requires
-raise_rows-requires c =
-    let a = c.args in
-    let g = c.requires in
-    let tall = tall-is a.periods.now a.table a.chain g.prepared a.i g.probe in
-    let w = shortest-is a.periods.now a.table a.chain g.prepared in
-    let y = row-bin a.periods.now a.lengths.now a.table a.chain a.starts.now a.fills.now a.i g c.lowest_row-y.result (rw (tall, w) at c.lowest_row-y.ensures) in
-    record { h_in_bounds = rw tall (row_fits a.periods.now a.lengths.now a.table a.chain a.starts.now a.fills.now a.i g c.lowest_row-y.result y c.if-fills-y.false); by_index = λ k h. omega (arith, g.light k h, read_small a.periods.now a.lengths.now a.table a.chain a.starts.now a.fills.now a.i g) }
+pub raise_rows-requires-clause-by_index : goal.raise_rows-requires-clause-by_index
+raise_rows-requires-clause-by_index c = λ k h. omega (arith, c.requires.light k h, read_small _ _ _ _ _ _ _ c.requires)
 
 pub returns : goal.returns
 returns c =
-    let a = c.args in
-    let g = c.requires in
-    let tall = tall-is a.periods.now a.table a.chain g.prepared a.i g.probe in
-    let w = shortest-is a.periods.now a.table a.chain g.prepared in
-    let y = row-bin a.periods.now a.lengths.now a.table a.chain a.starts.now a.fills.now a.i g c.lowest_row-y.result (rw (tall, w) at c.lowest_row-y.ensures) in
-    row-tried a.periods.now a.lengths.now a.table a.chain a.starts.now a.fills.now a.i g c.lowest_row-y.result y c.if-fills-y.false _ _ c.start_of.ensures (rw (← tall) c.raise_rows.ensures)
+    let e = found_bin _ _ _ _ _ _ _ c.requires _ _ c.height-h.ensures c.in-Some.ensures.1 in
+    row-tried _ _ _ _ _ _ _ c.requires _ e c.in-Some.ensures.0 _ _ c.start_of.ensures (rw (← c.height-h.ensures) c.raise_rows.ensures)

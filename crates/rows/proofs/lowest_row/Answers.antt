@@ -1,9 +1,7 @@
 -- `rows::lowest_row` meets its contract: y is the first row of a sub-bin, and none below it has room. Assumes nothing.
-use Prim.Native.Nat.{◌-◌}
-use native.Mathlib.Omega.{arith}
-use lib.ListN.{length}
-use Rattle.rows.specs.Seeking.{Seeking, seeking-start, seeking-within, seeking-next, seeking-found, seeking-none}
-use borrow.Author.Rules.{rules}
+use Rattle.std.specs.Prelude.{◌+◌}
+use Rattle.std.proofs.Common.{sym, arith}
+use Rattle.rows.specs.Seeking.{seeking-start, seeking-next, seeking-found, seeking-past}
 use Rattle.rows.proofs.lowest_row.Goals as goal
 
 pub loop-y-init : goal.loop-y-init
@@ -13,13 +11,7 @@ pub returns-then-rows-y : goal.returns-then-rows-y
 returns-then-rows-y c =
     let a = c.args in
     let l = c.loop-y in
-    seeking-found _ a.h a.p a.w l.y (omega arith) c.requires.h l.invariant (omega arith) (omega arith)
-
-pub overflow_add-y : goal.overflow_add-y
-overflow_add-y c =
-    let a = c.args in
-    let l = c.loop-y in
-    omega (arith, seeking-within _ a.h a.p a.w l.y (omega arith) c.requires.h l.invariant (omega arith))
+    (omega arith, sym (seeking-found _ a.h a.p a.w l.y (omega arith) c.requires.h l.invariant (omega arith) (omega arith)))
 
 pub loop-y-preserved : goal.loop-y-preserved
 loop-y-preserved c =
@@ -31,4 +23,10 @@ pub returns : goal.returns
 returns c =
     let a = c.args in
     let l = c.loop-y in
-    seeking-none _ a.h a.p a.w l.y (omega arith) c.requires.h l.invariant (omega arith)
+    seeking-past _ a.h a.p a.w l.y (omega arith) c.requires.h l.invariant (omega arith)
+
+pub returns-else-rows-y : goal.returns-else-rows-y
+returns-else-rows-y c =
+    let a = c.args in
+    let l = c.loop-y in
+    seeking-past _ a.h a.p a.w (l.y + a.h) (omega arith) c.requires.h (seeking-next _ a.h a.p a.w l.y (omega arith) c.requires.h l.invariant (omega arith) (λ f. omega arith)) (omega arith)

@@ -1,13 +1,6 @@
 -- `rows::lowest_row` meets its contract: y is the first row of a sub-bin, and none below it has room. Assumes nothing.
-use Prim.Native.Nat.{◌-◌}
-use native.Mathlib.Omega.{arith}
-use lib.ListN.{length}
-use Rattle.rows.specs.Seeking.{Seeking, seeking-start, seeking-within, seeking-next, seeking-found, seeking-none}
-use borrow.Author.Rules.{rules}
+use Rattle.rows.specs.Seeking.{Seeking}
 use Rattle.rows.proofs.lowest_row.Given as goal
 
 abbrev pub invariant-loop-y : goal.invariant-loop-y
 invariant-loop-y l = Seeking l.rows l.h l.p l.w l.y
-
-abbrev pub decreases-loop-y : goal.decreases-loop-y
-decreases-loop-y l = length l.rows - l.y

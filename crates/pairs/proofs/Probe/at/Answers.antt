@@ -1,10 +1,7 @@
 -- `pairs::Probe::at` meets its contract: the three columns are of one length. Assumes nothing.
-use native.Mathlib.Omega.{arith}
+use Rattle.std.proofs.Common.{arith}
 use Rattle.probes.proofs.Laws.{sound-gives}
 use Rattle.pairs.proofs.Probe.at.Goals as goal
 
 pub bounds-lengths-i : goal.bounds-lengths-i
-bounds-lengths-i c =
-    let Ts = c.args.periods.now in
-    let ps = c.args.lengths.now in
-    omega (arith, (sound-gives Ts ps c.requires.passes.sound).same)
+bounds-lengths-i c = omega (arith, (sound-gives _ _ c.requires.passes.sound).same)
