@@ -1,31 +1,44 @@
-// The two sums of a block, and a run of zeros.
+// The bytes of a block that its sums are of, the two sums, and a run of zeros.
 #![tactic(auto)]
 
-ghost use Rattle.std.specs.Prelude.{◌≡◌, ◌≤◌, take, drop};
+ghost use Rattle.std.specs.Prelude.{◌≡◌, ◌≤◌, take, length};
 ghost use Rattle.sheets.specs.Bytes.{byte_sum, place_sum, all_zero};
 ghost use Rattle.sheets.specs.Layout.{sum_place};
 
 use edition::Book;
 
-// The sum of a block's bytes, up to where the sums stand.
-pub fn byte_sum(block: &[u8; Book::BLOCK]) -> u32
-    ensures { result ≡ byte_sum (take sum_place block.now) }
+// The bytes of a block that its sums are of.
+pub fn summed(block: &[u8; Book::BLOCK]) -> &[u8]
+    ensures value { result.now ≡ take sum_place block.now }
+    ensures len { length result.now ≡ sum_place }
 {
-    block[..Book::SUMS].iter().map(|byte| *byte as u32).sum()
+    &block[..Book::SUMS]
 }
 
-// The sum of (place + 1) times byte over the same bytes.
-pub fn place_sum(block: &[u8; Book::BLOCK]) -> u32
-    ensures { result ≡ place_sum 0 (take sum_place block.now) }
+// The sum of the bytes.
+#[tactic(auto, using(crate::proofs::Totals::byte_sum_by_sum))]
+pub fn byte_sum(bytes: &[u8]) -> u32
+    requires { length bytes.now ≤ sum_place }
+    ensures { result ≡ byte_sum bytes.now }
 {
-    let bytes = block[..Book::SUMS].iter();
-    bytes.zip(1u32..).map(|(byte, place)| place * *byte as u32).sum()
+    bytes.iter().map(|byte| *byte as u32).sum()
 }
 
-// Whether the bytes from a place up to the sums are zero.
-pub fn all_zero(block: &[u8; Book::BLOCK], from: usize) -> bool
-    requires { from ≤ sum_place }
-    ensures { result ≡ all_zero (drop from (take sum_place block.now)) }
+// The sum of (place + 1) times byte.
+pub fn place_sum(bytes: &[u8]) -> u32
+    requires { length bytes.now ≤ sum_place }
+    ensures { result ≡ place_sum 0 bytes.now }
 {
-    block[from..Book::SUMS].iter().all(|byte| *byte == 0)
+    let mut sum = 0;
+    for (place, byte) in bytes.iter().enumerate() {
+        sum += (place as u32 + 1) * *byte as u32;
+    }
+    sum
+}
+
+// Whether the bytes are all zero.
+pub fn all_zero(bytes: &[u8]) -> bool
+    ensures { result ≡ all_zero bytes.now }
+{
+    bytes.iter().all(|byte| *byte == 0)
 }
