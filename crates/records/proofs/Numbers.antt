@@ -1,7 +1,7 @@
 -- A NUMBER OF AT MOST EIGHT BYTES: the first of the eight bytes that the library makes of it, stored one after another.
 -- Assumes nothing.
-use Rattle.std.specs.Prelude.{◌≡◌, refl, List, [], ◌∷◌, ◌++◌, ℕ, zero, suc, ◌+◌, ◌-◌, ◌*◌, ◌/◌, ◌%◌, ◌^◌, ◌≤◌, length, take, drop}
-use Rattle.std.proofs.Common.{ap, sym, ◌∙◌, arith}
+use Rattle.std.specs.Prelude.{◌≡◌, refl, List, ◌∷◌, ◌++◌, ℕ, zero, suc, ◌+◌, ◌-◌, ◌/◌, ◌%◌, ◌^◌, ◌≤◌, length, take, drop}
+use Rattle.std.proofs.Common.{ap, ◌∙◌, arith}
 use Rattle.std.proofs.Math.Nat.{div-div-eq-div-mul, pow-suc}
 use Rattle.std.proofs.lemmas.List.Edits.{sets}
 use Rattle.std.specs.Int.{w64, to_le_bytes, byte_at, bytes_low_first}
@@ -33,7 +33,6 @@ bytes-of k x h =
     let e : x / 256 ^ 0 ≡ x = omega arith in
     take-low 0 k 8 x h ∙ low-first 0 k x ∙ ap (bytes k) e
 
-pub stored : (l ys : List ℕ) (at k x : ℕ) → k ≤ 8 → at + k ≤ length l → ys ≡ take k (to_le_bytes w64 x)
-    → take at l ++ (ys ++ drop (at + k - at) (drop at l)) ≡ sets l at (bytes k x)
-stored l ys at k x h room e =
-    rw (e ∙ bytes-of k x h) (part-stored l (bytes k x) at (at + k) (omega arith) (omega (arith, length-bytes k x)) room)
+pub number_stored : (l : List ℕ) (at k x : ℕ) → k ≤ 8 → at + k ≤ length l
+    → take at l ++ (take k (to_le_bytes w64 x) ++ drop (at + k - at) (drop at l)) ≡ sets l at (bytes k x)
+number_stored l at k x h room = rw (bytes-of k x h) (part-stored l (bytes k x) at (at + k) (omega arith) (omega (arith, length-bytes k x)) room)

@@ -11,6 +11,7 @@ ghost use Rattle.sheets.specs.Records.{record_of, record_at};
 use edition::Book;
 
 // N bytes of x at a place, least first.
+#[tactic(auto, using(crate::proofs::Numbers::number_stored))]
 pub fn put_number<const N: usize>(block: &mut [u8], at: usize, x: usize)
     requires at_in_bounds { at + N ≤ length block.old }
     requires n_le_8 { N ≤ 8 }
