@@ -87,49 +87,33 @@ impl Book {
     }
 }
 
-// The number in the two bytes at a place.
-pub fn two(book: &[u8], at: usize) -> usize
-    requires { at + 2 ≤ length book.now }
-    ensures { result ≡ word 2 at book.now }
+// The number in the N bytes at a place, least byte first.
+#[tactic(auto, using(crate::proofs::Numbers::word_of_four))]
+pub fn number<const N: usize>(book: &[u8], at: usize) -> u32
+    requires at_in_bounds { at + N ≤ length book.now }
+    requires n_le_4 { N ≤ 4 }
+    ensures { result ≡ word N at book.now }
 {
-    let low = book[at] as usize;
-    let high = book[at + 1] as usize;
-    low + Book::BYTE * high
-}
-
-// The number in the four bytes at a place.
-pub fn four(book: &[u8], at: usize) -> u32
-    requires { at + 4 ≤ length book.now }
-    ensures { result ≡ word 4 at book.now }
-{
-    let byte = Book::BYTE as u32;
-    let low = book[at] as u32;
-    let second = book[at + 1] as u32;
-    let third = book[at + 2] as u32;
-    let high = book[at + 3] as u32;
-    low + byte * (second + byte * (third + byte * high))
+    let mut bytes = [0u8; 4];
+    bytes[..N].copy_from_slice(&book[at..at + N]);
+    u32::from_le_bytes(bytes)
 }
 
 // How many blocks n probes take.
+#[tactic(auto, using(crate::proofs::Counts::blocks_by_division))]
 pub fn blocks_of(n: usize) -> usize
     requires { n ≤ most_n }
     ensures { result ≡ blocks_of first_edition n }
 {
-    if n == 0 {
-        return 1;
-    }
-    (n + (Book::RECORDS - 1)) / Book::RECORDS
+    n.div_ceil(Book::RECORDS).max(1)
 }
 
 // How many records block b holds.
+#[tactic(auto, using(crate::proofs::Counts::blocks_within, crate::proofs::Counts::records_by_limit))]
 pub fn records_of(n: usize, b: usize) -> usize
     requires n_le_most_n { n ≤ most_n }
     requires b_bound { b < blocks_of first_edition n }
     ensures { result ≡ records_of first_edition n b }
 {
-    let blocks = blocks_of(n);
-    if b + 1 < blocks {
-        return Book::RECORDS;
-    }
-    n - b * Book::RECORDS
+    (n - b * Book::RECORDS).min(Book::RECORDS)
 }

@@ -10,29 +10,14 @@ ghost use Rattle.sheets.specs.Records.{record_of, record_at};
 
 use edition::Book;
 
-// Two bytes of x at a place, least first.
-pub fn put2(block: &mut [u8], at: usize, x: usize)
-    requires { at + 2 ≤ length block.old }
-    ensures { block.new ≡ sets block.old at (bytes 2 x) }
+// N bytes of x at a place, least first.
+#[tactic(auto, using(crate::proofs::Numbers::number_stored))]
+pub fn put_number<const N: usize>(block: &mut [u8], at: usize, x: usize)
+    requires at_in_bounds { at + N ≤ length block.old }
+    requires n_le_8 { N ≤ 8 }
+    ensures { block.new ≡ sets block.old at (bytes N x) }
 {
-    block[at] = (x % Book::BYTE) as u8;
-    let high = x / Book::BYTE;
-    block[at + 1] = (high % Book::BYTE) as u8;
-}
-
-// Four bytes of x at a place, least first.
-pub fn put4(block: &mut [u8], at: usize, x: u32)
-    requires { at + 4 ≤ length block.old }
-    ensures { block.new ≡ sets block.old at (bytes 4 x) }
-{
-    let byte = Book::BYTE as u32;
-    let second = x / byte;
-    let third = second / byte;
-    let high = third / byte;
-    block[at] = (x % byte) as u8;
-    block[at + 1] = (second % byte) as u8;
-    block[at + 2] = (third % byte) as u8;
-    block[at + 3] = (high % byte) as u8;
+    block[at..at + N].copy_from_slice(&x.to_le_bytes()[..N]);
 }
 
 // The bytes of one record: period, length, start.
@@ -40,9 +25,9 @@ fn put_record(block: &mut [u8], at: usize, period: u32, read: u32, start: u32)
     requires { at + first_edition.record_bytes ≤ length block.old }
     ensures { block.new ≡ sets block.old at (record_of period read start) }
 {
-    put4(block, at, period);
-    put4(block, at + 4, read);
-    put4(block, at + 8, start);
+    put_number::<4>(block, at, period as usize);
+    put_number::<4>(block, at + 4, read as usize);
+    put_number::<4>(block, at + 8, start as usize);
 }
 
 // k records from record `first` on, from where the records of a block begin.
@@ -61,8 +46,7 @@ pub fn put_records(
     requires k_in_bounds_3 { first + k ≤ length starts.now }
     ensures { block.new ≡ sets block.old head_bytes (run_from (record_at periods.now lengths.now starts.now) first k) }
 {
-    let mut j = 0;
-    while j < k {
+    for j in 0..k {
         let i = first + j;
         put_record(
             block,
@@ -71,6 +55,5 @@ pub fn put_records(
             lengths[i],
             starts[i],
         );
-        j += 1;
     }
 }

@@ -1,31 +1,22 @@
--- `sums::all_zero` meets its contract: the bytes passed are zero, so the answer for the rest is the answer. Assumes nothing.
-use mathlib.Core.Path.{◌≡◌, refl, sym, ap, ◌∙◌}
-use Prim.Native.Nat.{ℕ}
-use native.Mathlib.Omega.{arith}
-use lib.ListN.{take, drop}
+-- `sums::all_zero` meets its contract: what the library's `all` says, byte by byte. Assumes nothing.
+use Rattle.std.specs.Prelude.{◌≡◌, refl, Bool, true, false, List, [], ◌∷◌, ℕ}
+use Rattle.std.proofs.Common.{eqb, ◌∙◌, rules, tests}
+use Rattle.std.proofs.lemmas.Iterator.{YieldsList-from_slice}
+use Rattle.std.proofs.lemmas.Iterator.Search.{all_from_yields_List}
+use Rattle.std.specs.List.{list_all}
 use Rattle.sheets.specs.Bytes.{all_zero}
-use Rattle.sheets.specs.Layout.{sum_place}
-use Rattle.sheets.specs.ByteLaws.{zero-next, zero-found, zero-none}
 use Rattle.sums.proofs.all_zero.Goals as goal
 
-pub loop-at-init : goal.loop-at-init
-loop-at-init c = (omega arith, refl)
-
-pub returns-then-block-at-ne0 : goal.returns-then-block-at-ne0
-returns-then-block-at-ne0 c =
-    let l = c.loop-at in
-    let B = c.args.block.now in
-    zero-found B l.at sum_place (omega arith) (omega arith) c.if-block-at-ne0.true ∙ l.invariant.1
-
-pub loop-at-preserved : goal.loop-at-preserved
-loop-at-preserved c =
-    let l = c.loop-at in
-    let B = c.args.block.now in
-    (omega arith, zero-next B l.at sum_place (omega arith) (omega arith) (omega arith) ∙ l.invariant.1)
+all-is : (bs : List ℕ) → list_all (λ b. eqb b 0) bs ≡ all_zero bs
+unfolding all_zero
+all-is [] = refl
+all-is (b ∷ bs) = go (eqb b 0) refl (all-is bs)
+  where
+    go : (x : Bool) → eqb b 0 ≡ x → list_all (λ b. eqb b 0) bs ≡ all_zero bs → list_all (λ b. eqb b 0) (b ∷ bs) ≡ all_zero (b ∷ bs)
+    go true e rest = rw e rest
+    go false e rest = rw e
 
 pub returns : goal.returns
 returns c =
-    let l = c.loop-at in
-    let B = c.args.block.now in
-    let e : l.at ≡ sum_place = omega arith in
-    zero-none B sum_place ∙ ap (λ (i : ℕ). all_zero (drop i (take sum_place B))) (sym e) ∙ l.invariant.1
+    all_from_yields_List (λ b. eqb b 0) _ _ _ c.all.ensures.ran (YieldsList-from_slice c.args.bytes.now cc) (λ x b q k. search (rules, tests))
+    ∙ all-is c.args.bytes.now
