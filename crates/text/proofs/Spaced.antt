@@ -5,14 +5,16 @@
 --     numbers_next          one number more after the first
 --     numbers_length        their length
 --     numbers_room          the room that is left for one more after the first
+--     line_length           a line of numbers is as long as they are with a byte behind each
 -- Assumes nothing.
-use Rattle.std.specs.Prelude.{◌≡◌, refl, List, [], ◌∷◌, ◌++◌, ℕ, ◌+◌, ◌≤◌, ◌<◌, length, map, flat_map, take, get_or}
+use Rattle.std.specs.Prelude.{◌≡◌, refl, List, [], ◌∷◌, ◌++◌, ℕ, suc, ◌+◌, ◌≤◌, ◌<◌, length, map, sum_by, flat_map, take, get_or}
 use Rattle.std.proofs.Common.{sym, ap, ◌∙◌, append-nil, arith, length-append}
 use Rattle.std.proofs.lemmas.List.{take_more}
+use Rattle.std.proofs.lemmas.List.Concat.{length-flat_map}
 use Rattle.std.proofs.lemmas.List.Folds.{length-flat_map-take}
 use Rattle.std.proofs.lemmas.Grind.{flat_map-append}
 use Rattle.text.specs.declared.Printer.{Printer}
-use Rattle.text.specs.Text.{letters, decimal, spaced}
+use Rattle.text.specs.Text.{letters, decimal, spaced, printed_line}
 use Rattle.text.specs.Printing.{Puts, puts_length}
 
 abbrev pub after_first : List ℕ → List ℕ
@@ -41,3 +43,7 @@ pub numbers_room : {ns : List ℕ} {before mid after : Printer} (x : ℕ) (ys : 
     → Puts before (decimal x) mid → Puts mid (after_first (take i ys)) after → i < length ys → after.at + length (32 ∷ decimal (get_or ys i 0)) ≤ length after.page.now
 numbers_room x ys i e room p q h =
     omega (arith, room, numbers_length x ys e, p.put.place, puts_length p, q.put.place, puts_length q, length-flat_map-take (λ y. 32 ∷ decimal y) ys i 0 h)
+
+pub line_length : (n : ℕ) (ns : List ℕ) → length (printed_line (map decimal (n ∷ ns))) ≡ suc (length (decimal n)) + sum_by (λ m. suc (length (decimal m))) ns
+unfolding letters printed_line
+line_length n ns = omega (arith, length-append (spaced (map decimal (n ∷ ns))) (10 ∷ []), numbers_length {ns = n ∷ ns} n ns refl, length-flat_map (λ y. 32 ∷ decimal y) ns)
