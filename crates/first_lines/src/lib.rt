@@ -1,11 +1,12 @@
 // The first lines that the programs print, put into lent bytes.
 #![tactic(auto)]
 
-ghost use Rattle.std.specs.Prelude.{◌≡◌, ◌≤◌, length};
-ghost use Rattle.text.specs.Putting.{Put};
+ghost use Rattle.std.specs.Prelude.{◌≡◌, ◌+◌, ◌≤◌, length};
+ghost use Rattle.text.specs.Printing.{Puts};
 ghost use Rattle.lines.specs.Lines.{answer_line, check_line, head_line};
 ghost use Rattle.lines.specs.Laws.{most_line, most_check};
 
+use text::Printer;
 use words::Answer;
 
 // A printed line.
@@ -33,34 +34,36 @@ impl Printed {
 }
 
 // A refusal: number and index.
-pub fn put_answer(out: &mut [u8], given: Answer) -> usize
-    requires { most_line ≤ length out.old }
-    ensures put { Put out.old 0 (answer_line given) result out.new }
-    ensures upper_bound { result ≤ most_line }
+#[tactic(auto, using(crate::proofs::Short::two_short), unfolding(lines::specs::Lines::answer_line))]
+pub fn put_answer(printer: &mut Printer, given: Answer)
+    requires { printer.old.at + most_line ≤ length printer.old.page.now }
+    ensures puts { Puts printer.old (answer_line given) printer.new }
+    ensures upper_bound { printer.new.at ≤ printer.old.at + most_line }
 {
-    let a = text::put_word(out, 0, given.number, b' ');
-    text::put_word(out, a, given.index, b'\n')
+    printer.put_line(&[u64::from(given.number), u64::from(given.index)]);
 }
 
 // What `check` prints: number, both indexes and tick.
-pub fn put_check(out: &mut [u8], given: Answer) -> usize
-    requires { most_check ≤ length out.old }
-    ensures put { Put out.old 0 (check_line given) result out.new }
-    ensures upper_bound { result ≤ most_check }
+#[tactic(auto, using(crate::proofs::Short::check_short), unfolding(lines::specs::Lines::check_line))]
+pub fn put_check(printer: &mut Printer, given: Answer)
+    requires { printer.old.at + most_check ≤ length printer.old.page.now }
+    ensures puts { Puts printer.old (check_line given) printer.new }
+    ensures upper_bound { printer.new.at ≤ printer.old.at + most_check }
 {
-    let a = text::put_word(out, 0, given.number, b' ');
-    let b = text::put_word(out, a, given.index, b' ');
-    let c = text::put_word(out, b, given.second, b' ');
-    text::put_wide(out, c, given.tick, b'\n')
+    printer.put_line(&[
+        u64::from(given.number),
+        u64::from(given.index),
+        u64::from(given.second),
+        given.tick,
+    ]);
 }
 
 // The first line of a planned table: number, n and H.
-pub fn put_head(out: &mut [u8], number: u32, n: u32, rows: u32) -> usize
-    requires { most_line ≤ length out.old }
-    ensures put { Put out.old 0 (head_line number n rows) result out.new }
-    ensures upper_bound { result ≤ most_line }
+#[tactic(auto, using(crate::proofs::Short::three_short), unfolding(lines::specs::Lines::head_line))]
+pub fn put_head(printer: &mut Printer, number: u32, n: u32, rows: u32)
+    requires { printer.old.at + most_line ≤ length printer.old.page.now }
+    ensures puts { Puts printer.old (head_line number n rows) printer.new }
+    ensures upper_bound { printer.new.at ≤ printer.old.at + most_line }
 {
-    let a = text::put_word(out, 0, number, b' ');
-    let b = text::put_word(out, a, n, b' ');
-    text::put_word(out, b, rows, b'\n')
+    printer.put_line(&[u64::from(number), u64::from(n), u64::from(rows)]);
 }

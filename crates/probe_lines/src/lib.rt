@@ -1,60 +1,50 @@
 // The lines of the probes, put into lent bytes.
 #![tactic(auto)]
 
-ghost use Rattle.std.specs.Prelude.{[], ◌∷◌, ◌++◌, ◌+◌, ◌*◌, ◌≤◌, length};
+ghost use Rattle.std.specs.Prelude.{◌+◌, ◌*◌, ◌≤◌, length};
 ghost use Rattle.probes.specs.Table.{most_probes};
-ghost use Rattle.text.specs.Putting.{Put};
+ghost use Rattle.text.specs.Printing.{Puts};
 ghost use Rattle.lines.specs.Lines.{start_text, probe_line, probe_lines};
 ghost use Rattle.lines.specs.Laws.{most_line};
 
+use text::Printer;
 use words::Answer;
 
-// The end of a probe's line: its start, or `-` for the mark.
-fn put_start(out: &mut [u8], at: usize, start: u32) -> usize
-    requires { at + 11 ≤ length out.old }
-    ensures put { Put out.old at (start_text start ++ (10 ∷ [])) result out.new }
-    ensures upper_bound { result ≤ at + 11 }
+// A probe's start, or `-` for the mark.
+#[tactic(auto, using(crate::proofs::Lines::mark_text, crate::proofs::Lines::number_text))]
+fn put_start(printer: &mut Printer, start: u32)
+    requires { printer.old.at + length (start_text start) ≤ length printer.old.page.now }
+    ensures { Puts printer.old (start_text start) printer.new }
 {
-    if start == Answer::MARK {
-        out[at] = b'-';
-        out[at + 1] = b'\n';
-        return at + 2;
+    match start {
+        Answer::MARK => printer.put_byte(b'-'),
+        _ => printer.put_number(u64::from(start)),
     }
-    text::put_word(out, at, start, b'\n')
 }
 
 // A probe's line: its number, period, length and start, with `-` for the mark.
-fn put_probe(out: &mut [u8], at: usize, i: u32, period: u32, read: u32, start: u32) -> usize
-    requires { at + most_line ≤ length out.old }
-    ensures put { Put out.old at (probe_line i period read start) result out.new }
-    ensures upper_bound { result ≤ at + most_line }
+#[tactic(auto, using(crate::proofs::Lines::numbers_short, crate::proofs::Lines::start_short, text::specs::Printing::puts_length))]
+fn put_probe(printer: &mut Printer, i: u32, period: u32, read: u32, start: u32)
+    requires { printer.old.at + most_line ≤ length printer.old.page.now }
+    ensures puts { Puts printer.old (probe_line i period read start) printer.new }
+    ensures upper_bound { printer.new.at ≤ printer.old.at + most_line }
 {
-    let a = text::put_word(out, at, i, b' ');
-    let b = text::put_word(out, a, period, b' ');
-    let c = text::put_word(out, b, read, b' ');
-    put_start(out, c, start)
+    printer.put_numbers(&[u64::from(i), u64::from(period), u64::from(read)]);
+    printer.put_byte(b' ');
+    put_start(printer, start);
+    printer.put_byte(b'\n');
 }
 
 // The lines of all probes.
-pub fn put_probes(
-    out: &mut [u8],
-    from: usize,
-    periods: &[u32],
-    lengths: &[u32],
-    starts: &[u32],
-) -> usize
-    requires periods_len_bound { length periods.now ≤ most_probes }
-    requires periods_in_bounds { length periods.now ≤ length lengths.now }
-    requires periods_in_bounds_2 { length periods.now ≤ length starts.now }
-    requires periods_in_bounds_3 { from + most_line * length periods.now ≤ length out.old }
-    ensures put { Put out.old from (probe_lines periods.now lengths.now starts.now 0 (length periods.now)) result out.new }
-    ensures upper_bound { result ≤ from + most_line * length periods.now }
+pub fn put_probes(printer: &mut Printer, periods: &[u32], lengths: &[u32], starts: &[u32])
+    requires few { length periods.now ≤ most_probes }
+    requires lengths { length periods.now ≤ length lengths.now }
+    requires starts { length periods.now ≤ length starts.now }
+    requires room { printer.old.at + most_line * length periods.now ≤ length printer.old.page.now }
+    ensures puts { Puts printer.old (probe_lines periods.now lengths.now starts.now 0 (length periods.now)) printer.new }
+    ensures upper_bound { printer.new.at ≤ printer.old.at + most_line * length periods.now }
 {
-    let mut at = from;
-    let mut i = 0;
-    while i < periods.len() {
-        at = put_probe(out, at, i as u32, periods[i], lengths[i], starts[i]);
-        i += 1;
+    for (i, period) in periods.iter().enumerate() {
+        put_probe(printer, i as u32, *period, lengths[i], starts[i]);
     }
-    at
 }

@@ -1,42 +1,67 @@
-// Text in lent bytes: a number in decimal at a place, and a number with what ends it. Each call answers the place behind what it wrote.
+// Text in lent bytes: a printer, and what it puts behind what it put before.
 #![tactic(auto)]
 
-ghost use Rattle.std.specs.Prelude.{◌++◌, [], ◌∷◌, ◌+◌, ◌≤◌, length};
-ghost use Rattle.text.specs.Text.{decimal};
-ghost use Rattle.text.specs.Putting.{Put};
+ghost use Rattle.std.specs.Prelude.{◌≡◌, [], ◌∷◌, ◌+◌, ◌≤◌, ◌<◌, length, map};
+ghost use Rattle.text.specs.Text.{decimal, spaced, printed_line};
+ghost use Rattle.text.specs.Printing.{Puts};
 
-// A number in decimal, without leading zeros.
-pub fn put_number(out: &mut [u8], at: usize, x: u64) -> usize
-    requires { at + length (decimal x) ≤ length out.old }
-    ensures { Put out.old at (decimal x) result out.new }
-{
-    if x < 10 {
-        out[at] = b'0' + x as u8;
-        return at + 1;
+// Lent bytes, and the place behind what was put there.
+#[derive(Drop)]
+pub struct Printer<'a> {
+    pub page: &'a mut [u8],
+    pub at: usize,
+}
+
+impl<'a> Printer<'a> {
+    // At the start of the bytes.
+    pub fn over(page: &'a mut [u8]) -> Printer<'a>
+        ensures same { result.page.ghost_name ≡ page.entry.ghost_name }
+        ensures page { result.page.now ≡ page.old }
+        ensures at { result.at ≡ 0 }
+    {
+        Printer { page, at: 0 }
     }
-    let to = put_number(out, at, x / 10);
-    out[to] = b'0' + (x % 10) as u8;
-    to + 1
-}
 
-// A number of 64 bits, and the byte that ends it: a space or a newline.
-pub fn put_wide(out: &mut [u8], at: usize, x: u64, end: u8) -> usize
-    requires { at + 21 ≤ length out.old }
-    ensures put { Put out.old at (decimal x ++ (end ∷ [])) result out.new }
-    ensures upper_bound { result ≤ at + 21 }
-{
-    let to = put_number(out, at, x);
-    out[to] = end;
-    to + 1
-}
+    pub fn put_byte(&mut self, byte: u8)
+        requires { self.old.at < length self.old.page.now }
+        ensures { Puts self.old (byte ∷ []) self.new }
+    {
+        self.page[self.at] = byte;
+        self.at += 1;
+    }
 
-// A number of 32 bits, and the byte that ends it.
-pub fn put_word(out: &mut [u8], at: usize, x: u32, end: u8) -> usize
-    requires { at + 11 ≤ length out.old }
-    ensures put { Put out.old at (decimal x ++ (end ∷ [])) result out.new }
-    ensures upper_bound { result ≤ at + 11 }
-{
-    let to = put_number(out, at, x as u64);
-    out[to] = end;
-    to + 1
+    // A number in decimal, without leading zeros.
+    pub fn put_number(&mut self, x: u64)
+        requires { self.old.at + length (decimal x) ≤ length self.old.page.now }
+        ensures { Puts self.old (decimal x) self.new }
+    {
+        if x >= 10 {
+            self.put_number(x / 10);
+        }
+        self.put_byte(b'0' + (x % 10) as u8);
+    }
+
+    // Numbers with one space between them.
+    pub fn put_numbers(&mut self, numbers: &[u64])
+        requires { self.old.at + length (spaced (map decimal numbers.now)) ≤ length self.old.page.now }
+        ensures { Puts self.old (spaced (map decimal numbers.now)) self.new }
+    {
+        let Some((first, rest)) = numbers.split_first() else {
+            return;
+        };
+        self.put_number(*first);
+        for x in rest {
+            self.put_byte(b' ');
+            self.put_number(*x);
+        }
+    }
+
+    // A line of numbers.
+    pub fn put_line(&mut self, numbers: &[u64])
+        requires { self.old.at + length (printed_line (map decimal numbers.now)) ≤ length self.old.page.now }
+        ensures { Puts self.old (printed_line (map decimal numbers.now)) self.new }
+    {
+        self.put_numbers(numbers);
+        self.put_byte(b'\n');
+    }
 }

@@ -1,12 +1,20 @@
 use native.Mathlib.Omega.{arith}
-use Rattle.lines.specs.Laws.{probe-put}
-use borrow.Author.Rules.{rules}
+use Rattle.text.specs.Printing.{puts_length, puts_on}
+use Rattle.probe_lines.proofs.Lines.{numbers_short, start_short, probe_text}
 use Rattle.probe_lines.proofs.put_probe.Goals as goal
 
-pub returns : goal.returns
-returns c =
-    let a = c.args in
-    let one = c.put_word-a in
-    let two = c.put_word-b in
-    let three = c.put_word-c in
-    let four = c.put_start in record { put = probe-put a.i a.period a.read a.start one.ensures.put two.ensures.put three.ensures.put four.ensures.put; upper_bound = omega (arith, one.ensures.upper_bound, two.ensures.upper_bound, three.ensures.upper_bound, four.ensures.upper_bound) }
+pub put_start-requires : goal.put_start-requires
+put_start-requires c =
+    let numbers = numbers_short c.from.result c.from-2.result c.from-3.result (omega arith) (omega arith) (omega arith) in
+    omega (arith, numbers, start_short c.args.start (omega arith), puts_length c.put_numbers.ensures, puts_length c.put_byte.ensures, c.put_numbers.ensures.put.place, c.put_byte.ensures.put.place)
+
+pub put_byte-requires-2 : goal.put_byte-requires-2
+put_byte-requires-2 c =
+    let put = puts_on c.put_numbers.ensures (puts_on c.put_byte.ensures c.put_start.ensures) in
+    let numbers = numbers_short c.from.result c.from-2.result c.from-3.result (omega arith) (omega arith) (omega arith) in
+    omega (arith, numbers, start_short c.args.start (omega arith), puts_length put, c.put_numbers.ensures.put.place, c.put_byte.ensures.put.place, c.put_start.ensures.put.place)
+
+pub returns-clause-puts : goal.returns-clause-puts
+returns-clause-puts c =
+    rw (← probe_text c.args.i c.args.period c.args.read c.args.start)
+    (rw (c.from.ensures, c.from-2.ensures, c.from-3.ensures) at (puts_on c.put_numbers.ensures (puts_on c.put_byte.ensures (puts_on c.put_start.ensures c.put_byte-2.ensures))))

@@ -1,9 +1,10 @@
--- `stream::read_full` ends within the buffer: what was read so far is within it, and each read that goes on makes that more.
-use Rattle.std.proofs.Common.{length, ◌-◌, ◌≤◌}
+-- `stream::read_full` ends within the buffer: what was read so far is what the input gave, within it, and each read that goes on makes that more.
+use Rattle.std.proofs.Common.{length, ◌-◌, ◌≤◌, take}
+use Rattle.std.specs.Io.KnownBytes.{Consumes}
 use Rattle.stream.proofs.read_full.Given as goal
 
 abbrev pub invariant-loop-done : goal.invariant-loop-done
-invariant-loop-done g l = l.done ≤ length l.buf
+invariant-loop-done g l = (l.done ≤ length l.buf) × Consumes (g.R.Read.remaining l.initial.input) (g.R.Read.remaining l.input) (take l.done l.buf)
 
 abbrev pub decreases-loop-done : goal.decreases-loop-done
 decreases-loop-done g l = length l.initial.buf - l.done
