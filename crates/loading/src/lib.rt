@@ -1,7 +1,7 @@
 // What a book holds: its size, the first bad block, and a column of its records.
 #![tactic(auto)]
 
-ghost use Rattle.std.specs.Prelude.{◌≡◌, Bool, false, ◌++◌, ℕ, ◌*◌, ◌≤◌, length, drop};
+ghost use Rattle.std.specs.Prelude.{◌≡◌, Bool, false, ◌++◌, ℕ, ◌*◌, ◌≤◌, length, drop, IfOk};
 ghost use Rattle.words.specs.Answers.{refused};
 ghost use Rattle.words.specs.Refused.{refusal, shown_number};
 ghost use Rattle.sheets.specs.Layout.{first_edition, block_bytes, most_n, blocks_of};
@@ -57,7 +57,9 @@ fn refused(fault: Fault, block: u32) -> Refusal
 // The first block that has a fault is refused for it; where none has one, n.
 pub fn judge_blocks(book: &[u8]) -> Result<u32, Refusal>
     requires { bad_size first_edition book.now ≡ false }
-    ensures { shown_number result ≡ judged_blocks first_edition book.now }
+    ensures judged { shown_number result ≡ judged_blocks first_edition book.now }
+    ensures few { IfOk result (λ n. n ≤ most_n) }
+    ensures room { IfOk result (λ n. blocks_of first_edition n * block_bytes ≤ length book.now) }
 {
     let n = edition::number::<2>(book, 6);
     let (blocks, _) = book.as_chunks::<{ Book::BLOCK }>();

@@ -1,9 +1,10 @@
 -- `loading::judge_blocks` meets its contract: the blocks below b have no fault. Assumes nothing.
-use Rattle.std.proofs.Common.{ℕ, ◌∙◌, sym, ap, arith}
+use Rattle.std.proofs.Common.{ℕ, ◌∙◌, sym, ap, arith, refl}
 use Rattle.words.specs.Answers.{refused}
 use Rattle.sheets.specs.Layout.{first_edition}
 use Rattle.sheets.specs.Blocks.{blocks_in, n_of}
 use Rattle.sheets.proofs.BlocksLaws.{size-tested, searched-start, searched-next, searched-found, searched-none}
+use Rattle.sheets.proofs.Loading.{passed}
 use Rattle.loading.proofs.Chunks.{chunk-verdict, fault-above}
 use Rattle.loading.proofs.judge_blocks.Goals as goal
 
@@ -20,9 +21,9 @@ overflow_cast-b c =
     let s = size-tested first_edition c.args.book.now c.requires in
     omega arith
 
-pub returns-in-Err : goal.returns-in-Err
+pub returns-in-Err-clause-judged : goal.returns-in-Err-clause-judged
 unfolding blocks_in
-returns-in-Err c =
+returns-in-Err-clause-judged c =
     let B = c.args.book.now in
     let b = c.loop-b.b in
     let v = chunk-verdict B _ _ b _ _ _ c.as_chunks.ensures.front c.as_chunks.ensures.front_len c.loop-b-test.true c.number-n.ensures c.in-Err.ensures in
@@ -38,4 +39,8 @@ loop-b-preserved c =
 
 pub returns : goal.returns
 unfolding blocks_in n_of
-returns c = ap (λ (n : ℕ). refused 0 n) c.number-n.ensures ∙ searched-none first_edition c.args.book.now c.loop-b.b (omega arith) c.loop-b.invariant
+returns c =
+    let B = c.args.book.now in
+    let e = ap (λ (n : ℕ). refused 0 n) c.number-n.ensures ∙ searched-none first_edition B c.loop-b.b (omega arith) c.loop-b.invariant in
+    let p = passed B (refused 0 c.number-n.result) c.requires e refl in
+    record { judged = e; few = p.few; room = p.room }
