@@ -45,7 +45,7 @@ impl<'a> Grid<'a> {
     // The height of a read of probe i.
     pub fn height(&self, i: usize) -> u32
         requires { i < length self.now.periods.now }
-        ensures { result ≡ height self.now.periods.now (get_or self.now.periods.now i 0) }
+        ensures { let Ts = self.now.periods.now in result ≡ height Ts (get_or Ts i 0) }
     {
         self.table.longest / self.periods[i]
     }
@@ -54,7 +54,7 @@ impl<'a> Grid<'a> {
     pub fn corner_of(&self, i: usize, s: u32) -> Corner
         requires i_in_bounds { i < length self.now.periods.now }
         requires s_bound { s < get_or self.now.periods.now i 0 }
-        ensures { result ≡ record { x = corner_x self.now.periods.now s; y = corner_y self.now.periods.now (get_or self.now.periods.now i 0) s } }
+        ensures { let Ts = self.now.periods.now in result ≡ record { x = corner_x Ts s; y = corner_y Ts (get_or Ts i 0) s } }
     {
         let w = self.table.shortest;
         let slots = self.periods[i] / w;
@@ -69,8 +69,8 @@ impl<'a> Grid<'a> {
     // The start of the corner x, y of probe i.
     pub fn start_of(&self, i: usize, x: u32, y: u32) -> u32
         requires i_in_bounds { i < length self.now.periods.now }
-        requires on_grid { OnGrid self.now.periods.now (get_or self.now.periods.now i 0) x y }
-        ensures { result ≡ start_of self.now.periods.now (get_or self.now.periods.now i 0) x y }
+        requires on_grid { let Ts = self.now.periods.now in OnGrid Ts (get_or Ts i 0) x y }
+        ensures { let Ts = self.now.periods.now in result ≡ start_of Ts (get_or Ts i 0) x y }
     {
         let w = self.table.shortest;
         let slots = self.periods[i] / w;

@@ -1,59 +1,55 @@
 // The planner; the conversions are passed on. Any table and any lent columns: a refusal writes nothing.
 #![tactic(auto)]
 
-ghost use Rattle.std.specs.Prelude.{◌≡◌};
+ghost use Rattle.std.specs.Prelude.{◌≡◌, OnOk};
 ghost use Rattle.lists.specs.Answering.{first_of};
 ghost use Rattle.words.specs.Answers.{refused, done};
+ghost use Rattle.words.specs.Refused.{shown};
+ghost use Rattle.probes.specs.Laws.{Soundness};
 ghost use Rattle.stack.specs.FirstFit.{plan_findings, outcome};
 ghost use Rattle.rectangles.specs.Plan.{Plans};
+ghost use Rattle.rectangles.specs.Ends.{PlanReady};
 
 pub use cornering::to_corners;
-use flipping::Chain;
+use grid::Grid;
 pub use starting::to_starts;
 use table::Table;
-use words::Answer;
+use words::Refusal;
 
 // Numbers 1 to 7 of the planner.
-fn plan_judged(periods: &[u32], lengths: &[u32], starts: &[u32], fills: &[u32]) -> Answer
-    ensures { result ≡ first_of (plan_findings periods.now lengths.now starts.now fills.now) refused done }
+#[tactic(auto, using(crate::proofs::Judged::ways))]
+fn plan_judged(
+    periods: &[u32],
+    lengths: &[u32],
+    starts: &[u32],
+    fills: &[u32],
+) -> Result<(), Refusal>
+    ensures value { shown result ≡ first_of (plan_findings periods.now lengths.now starts.now fills.now) refused done }
+    ensures ready { OnOk result (PlanReady periods.now lengths.now starts.now fills.now) }
+    ensures sound { OnOk result (Soundness periods.now lengths.now) }
 {
-    let answer = table::judge(periods, lengths);
-    let number = answer.number;
-    if number != 0 {
-        return answer;
+    table::judge(periods, lengths)?;
+    let rows = Table::of(periods).rows as usize;
+    if starts.len() < periods.len() || fills.len() < rows {
+        return Err(Refusal::NoRoom);
     }
-    if starts.len() < periods.len() {
-        return Answer::refused(7, 0);
-    }
-    let table = Table::of(periods);
-    let rows = table.rows as usize;
-    if fills.len() < rows {
-        return Answer::refused(7, 0);
-    }
-    Answer::done()
+    Ok(())
 }
 
 // Plans a table by first fit.
-pub fn plan(periods: &[u32], lengths: &[u32], starts: &mut [u32], fills: &mut [u32]) -> Answer
-    ensures { Plans periods.now lengths.now starts.old fills.old (outcome result starts.new fills.new) }
+#[tactic(auto, using(crate::proofs::Judged::refused_plan))]
+pub fn plan(
+    periods: &[u32],
+    lengths: &[u32],
+    starts: &mut [u32],
+    fills: &mut [u32],
+) -> Result<(), Refusal>
+    ensures { Plans periods.now lengths.now starts.old fills.old (outcome (shown result) starts.new fills.new) }
 {
-    let answer = plan_judged(periods, lengths, starts, fills);
-    let number = answer.number;
-    if number != 0 {
-        return answer;
-    }
-    let table = Table::of(periods);
-    let h = table.rows as usize;
+    plan_judged(periods, lengths, starts, fills)?;
+    let grid = Grid::of(periods);
     let turns = ranks::order_of(periods, lengths);
-    let rows = &mut fills[..h];
+    let rows = &mut fills[..grid.table.rows as usize];
     rows::clear(rows);
-    seating::place_all(
-        periods,
-        lengths,
-        turns,
-        table,
-        Chain::of(periods),
-        starts,
-        rows,
-    )
+    seating::place_all(&grid, lengths, &turns[..periods.len()], starts, rows)
 }

@@ -2,84 +2,53 @@
 #![tactic(auto)]
 
 ghost use Rattle.std.specs.Prelude.{◌≡◌, ℕ, ◌≤◌, ◌<◌, length, get_or};
-ghost use Rattle.lists.specs.Lowest.{lowest};
+ghost use Rattle.lists.specs.Lowest.{FirstAt};
 ghost use Rattle.lists.specs.Counted.{filled};
 ghost use Rattle.chain.specs.CornerLaws.{OnGrid};
-ghost use Rattle.grid.specs.Prepared.{Prepared};
 ghost use Rattle.chain.specs.Grid.{x_at, y_at, start_at, off_grid};
 
-use flipping::Chain;
-use grid::{corner_of, start_of};
-use table::Table;
+use grid::Grid;
 
-// Number 18: the lowest place whose corner is off the grid; the number of probes where there is none.
-pub fn off_grid(periods: &[u32], table: Table, chain: Chain, xs: &[u32], ys: &[u32]) -> usize
-    requires prepared { Prepared periods.now table chain }
-    requires periods_in_bounds { length periods.now ≤ length xs.now }
-    requires periods_in_bounds_2 { length periods.now ≤ length ys.now }
-    ensures { result ≡ lowest (off_grid periods.now xs.now ys.now) (length periods.now) }
+// Number 18: the lowest place whose corner is off the grid.
+pub fn off_grid(grid: &Grid, xs: &[u32], ys: &[u32]) -> Option<usize>
+    requires long_x { length grid.now.periods.now ≤ length xs.now }
+    requires long_y { length grid.now.periods.now ≤ length ys.now }
+    ensures { let Ts = grid.now.periods.now in FirstAt (off_grid Ts xs.now ys.now) (length Ts) result }
 {
-    let w = table.shortest;
-    let m = table.longest;
-    let rows = chain.rows;
-    let mut i = 0;
-    while i < periods.len() {
-        let h = m / periods[i];
+    for i in 0..grid.periods.len() {
         let y = ys[i];
-        if w <= xs[i] {
-            return i;
+        if grid.table.shortest <= xs[i] || y % grid.height(i) != 0 || grid.chain.rows <= y {
+            return Some(i);
         }
-        if y % h != 0 {
-            return i;
-        }
-        if rows <= y {
-            return i;
-        }
-        i += 1;
     }
-    i
+    None
 }
 
 // The corners of all starts, into two columns.
-pub fn write_corners(
-    periods: &[u32],
-    table: Table,
-    chain: Chain,
-    starts: &[u32],
-    xs: &mut [u32],
-    ys: &mut [u32],
-)
-    requires prepared { Prepared periods.now table chain }
-    requires periods_in_bounds { (length periods.now ≤ length starts.now) × (length periods.now ≤ length xs.old) × (length periods.now ≤ length ys.old) }
-    requires by_index { (i : ℕ) → i < length periods.now → get_or starts.now i 0 < get_or periods.now i 0 }
-    ensures { (xs.new ≡ filled (x_at periods.now starts.now) (length periods.now) xs.old) × (ys.new ≡ filled (y_at periods.now starts.now) (length periods.now) ys.old) }
+pub fn write_corners(grid: &Grid, starts: &[u32], xs: &mut [u32], ys: &mut [u32])
+    requires long { length grid.now.periods.now ≤ length starts.now }
+    requires long_x { length grid.now.periods.now ≤ length xs.old }
+    requires long_y { length grid.now.periods.now ≤ length ys.old }
+    requires below { let Ts = grid.now.periods.now in (i : ℕ) → i < length Ts → get_or starts.now i 0 < get_or Ts i 0 }
+    ensures xs { let Ts = grid.now.periods.now in xs.new ≡ filled (x_at Ts starts.now) (length Ts) xs.old }
+    ensures ys { let Ts = grid.now.periods.now in ys.new ≡ filled (y_at Ts starts.now) (length Ts) ys.old }
 {
-    let mut i = 0;
-    while i < periods.len() {
-        let corner = corner_of(periods, table, chain, i, starts[i]);
+    for i in 0..grid.periods.len() {
+        let corner = grid.corner_of(i, starts[i]);
         xs[i] = corner.x;
         ys[i] = corner.y;
-        i += 1;
     }
 }
 
 // The starts of all corners, into one column.
-pub fn write_starts(
-    periods: &[u32],
-    table: Table,
-    chain: Chain,
-    xs: &[u32],
-    ys: &[u32],
-    starts: &mut [u32],
-)
-    requires prepared { Prepared periods.now table chain }
-    requires periods_in_bounds { (length periods.now ≤ length xs.now) × (length periods.now ≤ length ys.now) × (length periods.now ≤ length starts.old) }
-    requires by_index { (i : ℕ) → i < length periods.now → OnGrid periods.now (get_or periods.now i 0) (get_or xs.now i 0) (get_or ys.now i 0) }
-    ensures { starts.new ≡ filled (start_at periods.now xs.now ys.now) (length periods.now) starts.old }
+pub fn write_starts(grid: &Grid, xs: &[u32], ys: &[u32], starts: &mut [u32])
+    requires long_x { length grid.now.periods.now ≤ length xs.now }
+    requires long_y { length grid.now.periods.now ≤ length ys.now }
+    requires long { length grid.now.periods.now ≤ length starts.old }
+    requires on_grid { let Ts = grid.now.periods.now in (i : ℕ) → i < length Ts → OnGrid Ts (get_or Ts i 0) (get_or xs.now i 0) (get_or ys.now i 0) }
+    ensures { let Ts = grid.now.periods.now in starts.new ≡ filled (start_at Ts xs.now ys.now) (length Ts) starts.old }
 {
-    let mut i = 0;
-    while i < periods.len() {
-        starts[i] = start_of(periods, table, chain, i, xs[i], ys[i]);
-        i += 1;
+    for i in 0..grid.periods.len() {
+        starts[i] = grid.start_of(i, xs[i], ys[i]);
     }
 }

@@ -1,72 +1,41 @@
--- `cornering::corners_judged` meets its contract: each way out is a way of specs/Ways. Assumes nothing.
-use mathlib.Core.Path.{◌∙◌}
-use native.Mathlib.Omega.{arith}
+-- `cornering::corners_judged` meets its contract: each way out is a way of crate admitting, specs/Ways. Assumes nothing.
+use Rattle.std.proofs.Common.{refl, ◌∙◌, arith}
+use Rattle.lists.proofs.Searches.{found-at, none-at}
+use Rattle.words.proofs.Refused.{refusal-above, passed-on}
+use Rattle.probes.specs.Verdict.{late}
+use Rattle.probes.proofs.Folding.{late-at}
 use Rattle.probes.proofs.Laws.{sound-gives}
 use Rattle.probes.proofs.Composing.{zero-sound}
 use Rattle.admitting.specs.Ways.{corners-differ, corners-refused, corners-short-x, corners-short-y, corners-late, corners-pass}
-use borrow.Author.Rules.{rules}
+use Rattle.cornering.proofs.corners_judged.Goals.{then-xs-n-via-then-xs-n, then-xs-n-via-else-xs-n+then-ys-n}
 use Rattle.cornering.proofs.corners_judged.Goals as goal
 
 pub returns-then-n-starts : goal.returns-then-n-starts
-returns-then-n-starts c =
-    let Ts = c.args.periods.now in
-    let ps = c.args.lengths.now in
-    let ss = c.args.starts.now in
-    let xs = c.args.xs.now in
-    let ys = c.args.ys.now in
-    c.refused.ensures ∙ corners-differ Ts ps ss xs ys c.if-n-starts.true
+returns-then-n-starts c = corners-differ _ _ _ _ _ c.if-n-starts.true
 
-pub returns-then-number-ne0 : goal.returns-then-number-ne0
-returns-then-number-ne0 c =
-    let Ts = c.args.periods.now in
-    let ps = c.args.lengths.now in
-    let ss = c.args.starts.now in
-    let xs = c.args.xs.now in
-    let ys = c.args.ys.now in
-    corners-refused Ts ps ss xs ys (omega arith) _ c.judge-answer.ensures c.if-number-ne0.true
+pub returns-in_err-judge : goal.returns-in_err-judge
+returns-in_err-judge c =
+    passed-on _ _ _ c.from_residual.ensures.1
+    ∙ corners-refused _ _ _ _ _ c.if-n-starts.false _ c.in_err-judge.ensures (λ z. omega (arith, refusal-above c.in_err-judge.field-0.0))
 
 pub returns-then-xs-n : goal.returns-then-xs-n
-returns-then-xs-n c =
-    let Ts = c.args.periods.now in
-    let ps = c.args.lengths.now in
-    let ss = c.args.starts.now in
-    let xs = c.args.xs.now in
-    let ys = c.args.ys.now in
-    c.refused-then-xs-n.ensures ∙ corners-short-x Ts ps ss xs ys (omega arith) _ c.judge-answer.ensures c.if-number-ne0.false (omega arith)
+returns-then-xs-n c = elim c.then-xs-n.branch [
+  | then-xs-n-via-then-xs-n w ↦ corners-short-x _ _ _ _ _ c.if-n-starts.false _ c.in_ok-judge.ensures refl w.if-xs-n.true
+  | then-xs-n-via-else-xs-n+then-ys-n w ↦ corners-short-y _ _ _ _ _ c.if-n-starts.false _ c.in_ok-judge.ensures refl w.if-ys-n.true
+]
 
-pub returns-then-ys-n : goal.returns-then-ys-n
-returns-then-ys-n c =
-    let Ts = c.args.periods.now in
-    let ps = c.args.lengths.now in
-    let ss = c.args.starts.now in
-    let xs = c.args.xs.now in
-    let ys = c.args.ys.now in
-    c.refused-then-ys-n.ensures ∙ corners-short-y Ts ps ss xs ys (omega arith) _ c.judge-answer.ensures c.if-number-ne0.false (omega arith)
+pub overflow_cast-result : goal.overflow_cast-result
+overflow_cast-result c =
+    let s = sound-gives _ _ (zero-sound _ _ _ c.in_ok-judge.ensures refl) in
+    let at = found-at (late c.args.periods.now c.args.starts.now) _ _ _ (late-at _ _ _ (omega arith) c.late.ensures) c.in-Some.is in
+    omega (arith, s.few, at.0)
 
-pub at_place-requires : goal.at_place-requires
-at_place-requires c =
-    let Ts = c.args.periods.now in
-    let ps = c.args.lengths.now in
-    let ss = c.args.starts.now in
-    let xs = c.args.xs.now in
-    let ys = c.args.ys.now in
-    let s = sound-gives Ts ps (zero-sound Ts ps _ c.judge-answer.ensures c.if-number-ne0.false) in
-    omega (arith, s.few)
+pub returns-in-Some : goal.returns-in-Some
+returns-in-Some c =
+    let at = found-at (late c.args.periods.now c.args.starts.now) _ _ _ (late-at _ _ _ (omega arith) c.late.ensures) c.in-Some.is in
+    corners-late _ _ _ _ _ c.if-n-starts.false _ c.in_ok-judge.ensures refl c.if-xs-n.false c.if-ys-n.false _ at.1 at.0
 
-pub returns-then-i-n : goal.returns-then-i-n
-returns-then-i-n c =
-    let Ts = c.args.periods.now in
-    let ps = c.args.lengths.now in
-    let ss = c.args.starts.now in
-    let xs = c.args.xs.now in
-    let ys = c.args.ys.now in
-    c.at_place.ensures ∙ corners-late Ts ps ss xs ys (omega arith) _ c.judge-answer.ensures c.if-number-ne0.false (omega arith) (omega arith) _ c.late-i.ensures (omega arith)
-
-pub returns : goal.returns
-returns c =
-    let Ts = c.args.periods.now in
-    let ps = c.args.lengths.now in
-    let ss = c.args.starts.now in
-    let xs = c.args.xs.now in
-    let ys = c.args.ys.now in
-    c.done.ensures ∙ corners-pass Ts ps ss xs ys (omega arith) _ c.judge-answer.ensures c.if-number-ne0.false (omega arith) (omega arith) _ c.late-i.ensures (omega arith)
+pub returns-in-None : goal.returns-in-None
+returns-in-None c =
+    let none = none-at (late c.args.periods.now c.args.starts.now) _ _ (late-at _ _ _ (omega arith) c.late.ensures) c.in-None.is in
+    corners-pass _ _ _ _ _ c.if-n-starts.false _ c.in_ok-judge.ensures refl c.if-xs-n.false c.if-ys-n.false _ refl none

@@ -1,81 +1,38 @@
--- `plotting::off_grid` meets its contract: the corners of the places below i were tried and are on the grid. Assumes nothing.
-use Prim.Native.Nat.{◌-◌}
-use native.Mathlib.Omega.{arith}
-use lib.ListN.{length}
-use Rattle.lists.specs.Lowest.{Searching, searching-start, searching-next, searching-found, searching-none}
+-- `plotting::off_grid` meets its contract. Assumes nothing.
+use Rattle.std.specs.Prelude.{◌≡◌, true}
+use Rattle.std.proofs.Common.{sym, arith}
+use Rattle.lists.specs.Lowest.{searching-start, searching-next, searching-found, searching-none}
 use Rattle.chain.specs.Grid.{off_grid}
-use Rattle.grid.specs.Laws.{period-positive, tall-positive, off-x, off-y, off-row, on-all}
-use borrow.Author.Rules.{rules}
+use Rattle.grid.specs.Laws.{tall-is, tall-positive, off-x, off-y, off-row, on-all}
+use Rattle.plotting.proofs.off_grid.Goals.{then-grid-xs-via-then-grid-xs, then-grid-xs-via-else-grid-xs+then-y-height-ne0, then-grid-xs-via-else-grid-xs+else-y-height-ne0+then-grid-y}
 use Rattle.plotting.proofs.off_grid.Goals as goal
 
 pub loop-i-init : goal.loop-i-init
 loop-i-init c = searching-start _ _
 
-pub nonzero_div-h : goal.nonzero_div-h
-nonzero_div-h c =
-    let Ts = c.args.periods.now in
-    let t = c.args.table in
-    let ch = c.args.chain in
-    let xs = c.args.xs.now in
-    let ys = c.args.ys.now in
-    let p = c.requires.prepared in
-    let l = c.loop-i in
-    period-positive Ts t ch p l.i (omega arith)
-
-pub returns-then-w-xs : goal.returns-then-w-xs
-returns-then-w-xs c =
-    let Ts = c.args.periods.now in
-    let t = c.args.table in
-    let ch = c.args.chain in
-    let xs = c.args.xs.now in
-    let ys = c.args.ys.now in
-    let p = c.requires.prepared in
-    let l = c.loop-i in
-    searching-found _ _ l.i (omega arith) (off-x Ts t ch p xs ys l.i (omega arith) c.if-w-xs.true) l.invariant
-
 pub nonzero_rem-y : goal.nonzero_rem-y
 nonzero_rem-y c =
-    let Ts = c.args.periods.now in
-    let t = c.args.table in
-    let ch = c.args.chain in
-    let xs = c.args.xs.now in
-    let ys = c.args.ys.now in
-    let p = c.requires.prepared in
-    let l = c.loop-i in
-    tall-positive Ts t ch p l.i (omega arith)
+    let p = c.args.grid.now.prepared in
+    rw (c.height.ensures, ← tall-is _ _ _ p c.loop-i.i c.loop-i-test.true) (tall-positive _ _ _ p c.loop-i.i c.loop-i-test.true)
 
-pub returns-then-y-h-ne0 : goal.returns-then-y-h-ne0
-returns-then-y-h-ne0 c =
-    let Ts = c.args.periods.now in
-    let t = c.args.table in
-    let ch = c.args.chain in
-    let xs = c.args.xs.now in
-    let ys = c.args.ys.now in
-    let p = c.requires.prepared in
-    let l = c.loop-i in
-    searching-found _ _ l.i (omega arith) (off-y Ts t ch p xs ys l.i (omega arith) c.if-y-h-ne0.true) l.invariant
-
-pub returns-then-rows-y : goal.returns-then-rows-y
-returns-then-rows-y c =
-    let Ts = c.args.periods.now in
-    let t = c.args.table in
-    let ch = c.args.chain in
-    let xs = c.args.xs.now in
-    let ys = c.args.ys.now in
-    let p = c.requires.prepared in
-    let l = c.loop-i in
-    searching-found _ _ l.i (omega arith) (off-row Ts t ch p xs ys l.i (omega arith) c.if-rows-y.true) l.invariant
+pub returns-then-grid-xs : goal.returns-then-grid-xs
+returns-then-grid-xs c =
+    let g = c.args.grid.now in
+    let i = c.loop-i.i in
+    let h = c.loop-i-test.true in
+    let off : off_grid g.periods.now c.args.xs.now c.args.ys.now i ≡ true = elim c.then-grid-xs.branch [
+      | then-grid-xs-via-then-grid-xs w ↦ off-x _ _ _ g.prepared _ _ i h w.if-grid-xs.true
+      | then-grid-xs-via-else-grid-xs+then-y-height-ne0 w ↦ off-y _ _ _ g.prepared _ _ i h (rw (w.height.ensures, ← tall-is _ _ _ g.prepared i h) at w.if-y-height-ne0.true)
+      | then-grid-xs-via-else-grid-xs+else-y-height-ne0+then-grid-y w ↦ off-row _ _ _ g.prepared _ _ i h w.if-grid-y.true
+    ] in
+    (h, sym (searching-found _ _ i h off c.loop-i.invariant))
 
 pub loop-i-preserved : goal.loop-i-preserved
 loop-i-preserved c =
-    let Ts = c.args.periods.now in
-    let t = c.args.table in
-    let ch = c.args.chain in
-    let xs = c.args.xs.now in
-    let ys = c.args.ys.now in
-    let p = c.requires.prepared in
-    let l = c.loop-i in
-    searching-next _ _ l.i (omega arith) (on-all Ts t ch p xs ys l.i (omega arith) c.if-w-xs.false c.if-y-h-ne0.false c.if-rows-y.false) l.invariant
+    let p = c.args.grid.now.prepared in
+    let h = c.loop-i-test.true in
+    let even = rw (c.height.ensures, ← tall-is _ _ _ p c.loop-i.i h) at c.if-y-height-ne0.false in
+    searching-next _ _ c.loop-i.i h (on-all _ _ _ p _ _ c.loop-i.i h c.if-grid-xs.false even c.if-grid-y.false) c.loop-i.invariant
 
 pub returns : goal.returns
-returns c = searching-none _ _ c.loop-i.i (omega arith) c.loop-i.invariant
+returns c = omega (arith, searching-none _ _ c.loop-i.i c.loop-i-test.false c.loop-i.invariant)

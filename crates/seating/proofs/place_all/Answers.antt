@@ -1,116 +1,44 @@
 -- `seating::place_all` meets its contract: what first fit says of the rest of the order is what it says of all. Assumes nothing.
-use mathlib.Core.Path.{sym, ap, ◌∙◌}
-use Prim.Native.Nat.{◌<◌, ◌-◌}
-use native.Mathlib.Omega.{arith}
-use lib.ListN.{length, get_or}
-use borrow.Author.Tests.{not-true, not-false}
-use Rattle.order.proofs.Listed.{order-probe}
-use Rattle.seating.specs.Laws.{Seating, seating-start, seating-next, stuck-end, done_end, marked-long, rows_long, order-entry}
-use borrow.Author.Rules.{rules}
+use Rattle.std.specs.Prelude.{length}
+use Rattle.std.proofs.Common.{ap, arith}
+use Rattle.probes.specs.Extremes.{shortest-least}
+use Rattle.seating.specs.Laws.{seating-next}
+use Rattle.seating.proofs.Turns.{turn-below, turn-probe, turn-entry, turn-left, stuck-turn, last-turn}
 use Rattle.seating.proofs.place_all.Goals as goal
 
-pub loop-k-init : goal.loop-k-init
-loop-k-init c =
+pub place-requires : goal.place-requires
+place-requires c =
     let p = c.requires in
-    seating-start _ _ _ _ p.fills_len.0 p.fills_len.1
-
-pub offset_bounds-turns-k : goal.offset_bounds-turns-k
-offset_bounds-turns-k c =
-    let few = c.requires.periods_len.1 in
-    let w = c.loop-k.invariant.within in
-    omega arith
-
-pub bounds-turns-k : goal.bounds-turns-k
-bounds-turns-k c =
-    let few = c.requires.periods_len.1 in
-    let w = c.loop-k.invariant.within in
-    omega arith
-
-pub overflow_cast-i : goal.overflow_cast-i
-overflow_cast-i c =
-    let a = c.args in
-    let p = c.requires in
-    let Ts = a.periods.now in
-    let ps = a.lengths.now in
     let l = c.loop-k in
-    let e = order-entry Ts ps a.turns l.k p.turns_value (omega arith) in
-    let probe : get_or a.turns l.k 0 < length Ts = rw e (order-probe Ts ps l.k (omega arith)) in
-    omega arith
-
-pub place-placed-requires : goal.place-placed-requires
-place-placed-requires c =
-    let a = c.args in
-    let p = c.requires in
-    let Ts = a.periods.now in
-    let ps = a.lengths.now in
-    let l = c.loop-k in
-    let e = order-entry Ts ps a.turns l.k p.turns_value (omega arith) in
-    let probe : get_or a.turns l.k 0 < length Ts = rw e (order-probe Ts ps l.k (omega arith)) in
+    let probe = turn-probe _ _ _ p.turns_value l.k (omega arith) in
     record {
-      prepared = p.prepared;
+      prepared = c.args.grid.now.prepared;
       probe = probe;
       read = omega arith;
       entry = omega (arith, l.invariant.s-long);
-      some = (p.by_index (get_or a.turns l.k 0) probe).0;
-      short = (p.by_index (get_or a.turns l.k 0) probe).1;
+      some = (p.by_index _ probe).0;
+      short = (p.by_index _ probe).1;
       long = l.invariant.f-long;
       light = λ r h. omega (arith, l.invariant.light r h);
     }
 
 pub mark_rest-requires : goal.mark_rest-requires
 mark_rest-requires c =
-    let a = c.args in
-    let p = c.requires in
-    let Ts = a.periods.now in
-    let ps = a.lengths.now in
+    let still = c.place.ensures.stayed c.if-not-place.true in
+    λ m h. omega (arith, turn-left _ _ _ c.requires.turns_value c.loop-k.k m h, ap length still.0, c.loop-k.invariant.s-long)
+
+pub returns-then-not-place : goal.returns-then-not-place
+returns-then-not-place c =
     let l = c.loop-k in
-    let e = order-entry Ts ps a.turns l.k p.turns_value (omega arith) in
-    let probe : get_or a.turns l.k 0 < length Ts = rw e (order-probe Ts ps l.k (omega arith)) in
-    let still = c.place-placed.ensures.stayed c.if-not-placed.true in
-    record { k_le_n = (omega arith, omega arith); by_index = λ k h. omega (arith, order-entry Ts ps a.turns k p.turns_value h, order-probe Ts ps k h, ap length still.0, l.invariant.s-long) }
-
-pub shape_of-starts-then-not-placed : goal.shape_of-starts-then-not-placed
-shape_of-starts-then-not-placed c = marked-long _ _ _ _ c.args.starts.now c.mark_rest.ensures (c.place-placed.ensures.stayed c.if-not-placed.true).0 c.loop-k.invariant.s-long
-
-pub shape_of-fills-then-not-placed : goal.shape_of-fills-then-not-placed
-shape_of-fills-then-not-placed c = rows_long _ _ c.args.fills.now _ (c.place-placed.ensures.stayed c.if-not-placed.true).1 c.loop-k.invariant.f-long c.requires.fills_len.0
-
-pub returns-then-not-placed : goal.returns-then-not-placed
-returns-then-not-placed c =
-    let a = c.args in
-    let p = c.requires in
-    let Ts = a.periods.now in
-    let ps = a.lengths.now in
-    let l = c.loop-k in
-    let h : l.k < length Ts = omega arith in
-    stuck-end Ts ps a.turns a.starts.now a.fills.now l.starts l.fills l.k p.turns_value l.invariant h (get_or a.turns l.k 0)
-    (order-entry Ts ps a.turns l.k p.turns_value h) _ _ _ c.place-placed.ensures
-    c.if-not-placed.true _ _ c.refused.ensures c.mark_rest.ensures
-
-pub overflow_add-k : goal.overflow_add-k
-overflow_add-k c =
-    let few = c.requires.periods_len.1 in
-    omega arith
+    stuck-turn _ _ _ c.requires.turns_value _ _ _ _ l.k l.invariant (omega arith) _ _ _ _ c.place.ensures c.if-not-place.true c.mark_rest.ensures
 
 pub loop-k-preserved : goal.loop-k-preserved
 loop-k-preserved c =
-    let a = c.args in
     let p = c.requires in
-    let Ts = a.periods.now in
-    let ps = a.lengths.now in
     let l = c.loop-k in
-    let e = order-entry Ts ps a.turns l.k p.turns_value (omega arith) in
-    let probe : get_or a.turns l.k 0 < length Ts = rw e (order-probe Ts ps l.k (omega arith)) in
-    seating-next Ts ps a.starts.now a.fills.now l.starts l.fills l.k l.invariant (omega arith) (get_or a.turns l.k 0) e _ _ _ c.place-placed.ensures c.if-not-placed.false (omega (arith, (p.by_index (get_or a.turns l.k 0) probe).1, p.prepared.most _ probe, Rattle.probes.specs.Extremes.shortest-least Ts (get_or a.turns l.k 0) probe))
-
-pub shape_of-starts : goal.shape_of-starts
-shape_of-starts c = c.loop-k.invariant.s-long
-
-pub shape_of-fills : goal.shape_of-fills
-shape_of-fills c = c.loop-k.invariant.f-long ∙ sym c.requires.fills_len.0
+    let probe = turn-probe _ _ _ p.turns_value l.k (omega arith) in
+    seating-next _ _ _ _ _ _ l.k l.invariant (turn-below _ _ _ p.turns_value l.k (omega arith)) _ (turn-entry _ _ _ p.turns_value l.k (omega arith)) _ _ _ c.place.ensures c.if-not-place.false
+    (omega (arith, (p.by_index _ probe).1, c.args.grid.now.prepared.most _ probe, shortest-least c.args.grid.now.periods.now _ probe))
 
 pub returns : goal.returns
-returns c =
-    let a = c.args in
-    let l = c.loop-k in
-    done_end a.periods.now a.lengths.now a.starts.now a.fills.now l.starts l.fills l.k (omega arith) l.invariant _ c.done.ensures
+returns c = last-turn _ _ _ c.requires.turns_value _ _ _ _ c.loop-k.k c.loop-k.invariant (omega arith)

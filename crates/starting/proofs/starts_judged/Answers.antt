@@ -1,96 +1,45 @@
--- `starting::starts_judged` meets its contract: each way out is a way of specs/Ways. Assumes nothing.
-use mathlib.Core.Path.{◌∙◌}
-use native.Mathlib.Omega.{arith}
+-- `starting::starts_judged` meets its contract: each way out is a way of crate admitting, specs/Ways. Assumes nothing.
+use Rattle.std.proofs.Common.{refl, ◌∙◌, arith}
+use Rattle.lists.proofs.Searches.{found-at, none-at}
+use Rattle.words.proofs.Refused.{refusal-above, passed-on}
 use Rattle.probes.proofs.Laws.{sound-gives}
 use Rattle.probes.proofs.Composing.{zero-sound}
-use Rattle.grid.specs.Laws.{prepared-of}
+use Rattle.chain.specs.Grid.{off_grid}
 use Rattle.admitting.specs.Ways.{starts-differ-x, starts-differ-y, starts-refused, starts-short, starts-off, starts-pass}
-use borrow.Author.Rules.{rules}
+use Rattle.starting.proofs.starts_judged.Goals.{then-n-xs-via-then-n-xs, then-n-xs-via-else-n-xs+then-n-ys}
 use Rattle.starting.proofs.starts_judged.Goals as goal
 
 pub returns-then-n-xs : goal.returns-then-n-xs
-returns-then-n-xs c =
-    let Ts = c.args.periods.now in
-    let ps = c.args.lengths.now in
-    let xs = c.args.xs.now in
-    let ys = c.args.ys.now in
-    let ss = c.args.starts.now in
-    c.refused.ensures ∙ starts-differ-x Ts ps xs ys ss c.if-n-xs.true
+returns-then-n-xs c = elim c.then-n-xs.branch [
+  | then-n-xs-via-then-n-xs w ↦ starts-differ-x _ _ _ _ _ w.if-n-xs.true
+  | then-n-xs-via-else-n-xs+then-n-ys w ↦ starts-differ-y _ _ _ _ _ w.if-n-xs.false w.if-n-ys.true
+]
 
-pub returns-then-n-ys : goal.returns-then-n-ys
-returns-then-n-ys c =
-    let Ts = c.args.periods.now in
-    let ps = c.args.lengths.now in
-    let xs = c.args.xs.now in
-    let ys = c.args.ys.now in
-    let ss = c.args.starts.now in
-    c.refused-then-n-ys.ensures ∙ starts-differ-y Ts ps xs ys ss (omega arith) c.if-n-ys.true
-
-pub returns-then-number-ne0 : goal.returns-then-number-ne0
-returns-then-number-ne0 c =
-    let Ts = c.args.periods.now in
-    let ps = c.args.lengths.now in
-    let xs = c.args.xs.now in
-    let ys = c.args.ys.now in
-    let ss = c.args.starts.now in
-    starts-refused Ts ps xs ys ss (omega arith) (omega arith) _ c.judge-answer.ensures c.if-number-ne0.true
+pub returns-in_err-judge : goal.returns-in_err-judge
+returns-in_err-judge c =
+    passed-on _ _ _ c.from_residual.ensures.1
+    ∙ starts-refused _ _ _ _ _ c.if-n-xs.false c.if-n-ys.false _ c.in_err-judge.ensures (λ z. omega (arith, refusal-above c.in_err-judge.field-0.0))
 
 pub returns-then-starts-n : goal.returns-then-starts-n
-returns-then-starts-n c =
-    let Ts = c.args.periods.now in
-    let ps = c.args.lengths.now in
-    let xs = c.args.xs.now in
-    let ys = c.args.ys.now in
-    let ss = c.args.starts.now in
-    c.refused-then-starts-n.ensures ∙ starts-short Ts ps xs ys ss (omega arith) (omega arith) _ c.judge-answer.ensures c.if-number-ne0.false (omega arith)
+returns-then-starts-n c = starts-short _ _ _ _ _ c.if-n-xs.false c.if-n-ys.false _ c.in_ok-judge.ensures refl c.if-starts-n.true
 
-pub of-requires-2 : goal.of-requires-2
-of-requires-2 c =
-    let Ts = c.args.periods.now in
-    let ps = c.args.lengths.now in
-    let xs = c.args.xs.now in
-    let ys = c.args.ys.now in
-    let ss = c.args.starts.now in
-    let sound = zero-sound Ts ps _ c.judge-answer.ensures c.if-number-ne0.false in
-    let s = sound-gives Ts ps sound in
-    record { harmonic = s.harmonic; periods_bound = s.low }
+pub of-requires : goal.of-requires
+of-requires c =
+    let s = sound-gives _ _ (zero-sound _ _ _ c.in_ok-judge.ensures refl) in
+    record { harmonic = s.harmonic; most = s.most; low = s.low }
 
-pub off_grid-i-requires : goal.off_grid-i-requires
-off_grid-i-requires c =
-    let Ts = c.args.periods.now in
-    let ps = c.args.lengths.now in
-    let xs = c.args.xs.now in
-    let ys = c.args.ys.now in
-    let ss = c.args.starts.now in
-    let sound = zero-sound Ts ps _ c.judge-answer.ensures c.if-number-ne0.false in
-    let s = sound-gives Ts ps sound in
-    record { prepared = prepared-of Ts ps _ _ sound c.of.ensures c.of-2.ensures; periods_in_bounds = omega arith; periods_in_bounds_2 = omega arith }
+pub overflow_cast-result : goal.overflow_cast-result
+overflow_cast-result c =
+    let s = sound-gives _ _ (zero-sound _ _ _ c.in_ok-judge.ensures refl) in
+    let at = found-at (off_grid c.args.periods.now c.args.xs.now c.args.ys.now) _ _ _ (rw c.of.ensures at c.off_grid.ensures) c.in-Some.is in
+    omega (arith, s.few, at.0)
 
-pub at_place-requires : goal.at_place-requires
-at_place-requires c =
-    let Ts = c.args.periods.now in
-    let ps = c.args.lengths.now in
-    let xs = c.args.xs.now in
-    let ys = c.args.ys.now in
-    let ss = c.args.starts.now in
-    let sound = zero-sound Ts ps _ c.judge-answer.ensures c.if-number-ne0.false in
-    let s = sound-gives Ts ps sound in
-    omega (arith, s.few)
+pub returns-in-Some : goal.returns-in-Some
+returns-in-Some c =
+    let at = found-at (off_grid c.args.periods.now c.args.xs.now c.args.ys.now) _ _ _ (rw c.of.ensures at c.off_grid.ensures) c.in-Some.is in
+    starts-off _ _ _ _ _ c.if-n-xs.false c.if-n-ys.false _ c.in_ok-judge.ensures refl c.if-starts-n.false _ at.1 at.0
 
-pub returns-then-i-n : goal.returns-then-i-n
-returns-then-i-n c =
-    let Ts = c.args.periods.now in
-    let ps = c.args.lengths.now in
-    let xs = c.args.xs.now in
-    let ys = c.args.ys.now in
-    let ss = c.args.starts.now in
-    c.at_place.ensures ∙ starts-off Ts ps xs ys ss (omega arith) (omega arith) _ c.judge-answer.ensures c.if-number-ne0.false (omega arith) _ c.off_grid-i.ensures (omega arith)
-
-pub returns : goal.returns
-returns c =
-    let Ts = c.args.periods.now in
-    let ps = c.args.lengths.now in
-    let xs = c.args.xs.now in
-    let ys = c.args.ys.now in
-    let ss = c.args.starts.now in
-    c.done.ensures ∙ starts-pass Ts ps xs ys ss (omega arith) (omega arith) _ c.judge-answer.ensures c.if-number-ne0.false (omega arith) _ c.off_grid-i.ensures (omega arith)
+pub returns-in-None : goal.returns-in-None
+returns-in-None c =
+    let none = none-at (off_grid c.args.periods.now c.args.xs.now c.args.ys.now) _ _ (rw c.of.ensures at c.off_grid.ensures) c.in-None.is in
+    starts-pass _ _ _ _ _ c.if-n-xs.false c.if-n-ys.false _ c.in_ok-judge.ensures refl c.if-starts-n.false _ refl none
