@@ -1,6 +1,7 @@
 -- LAWS OF AN ANSWER IN BYTES.
 --     tick-halves           eight bytes of a tick are four of its lower half and four of its upper
---     told                  the five stores of an answer
+--     told                  the five stores of an answer, its tick in halves
+--     told_whole            its four stores
 -- Assumes nothing.
 use Rattle.std.specs.Prelude.{◌≡◌, List, ◌++◌, ℕ, ◌/◌, ◌%◌, ◌≤◌, length, drop}
 use Rattle.std.proofs.Common.{ap, ◌∙◌, arith}
@@ -32,3 +33,9 @@ unfolding shown bytes
 told l₀ l₁ l₂ l₃ l₄ l₅ a room e₁ e₂ e₃ e₄ e₅ =
     rw (e₅, e₄, e₃, e₂, e₁)
     (ap (λ (z : List ℕ). sets l₀ 0 (bytes 4 a.number ++ (bytes 4 a.index ++ (bytes 4 a.second ++ z)))) (tick-halves a.tick) ∙ sets-eq (shown a) l₀ 0 room)
+
+pub told_whole : (l₀ l₁ l₂ l₃ l₄ : List ℕ) (a : Answer) → answer_bytes ≤ length l₀
+    → l₁ ≡ sets l₀ 0 (bytes 4 a.number) → l₂ ≡ sets l₁ 4 (bytes 4 a.index) → l₃ ≡ sets l₂ 8 (bytes 4 a.second)
+    → l₄ ≡ sets l₃ 12 (bytes 8 a.tick) → l₄ ≡ shown a ++ drop answer_bytes l₀
+unfolding shown bytes
+told_whole l₀ l₁ l₂ l₃ l₄ a room e₁ e₂ e₃ e₄ = rw (e₄, e₃, e₂, e₁) (sets-eq (shown a) l₀ 0 room)

@@ -26,13 +26,9 @@ pub fn tell(said: Answer, answer: &mut [u8]) -> u32
     requires { answer_bytes ≤ length answer.old }
     ensures { (result ≡ said.number) × (answer.new ≡ shown said ++ drop answer_bytes answer.old) }
 {
-    let tick = said.tick;
-    let low = (tick % 4_294_967_296) as u32;
-    let high = (tick / 4_294_967_296) as u32;
-    records::put4(answer, 0, said.number);
-    records::put4(answer, 4, said.index);
-    records::put4(answer, 8, said.second);
-    records::put4(answer, 12, low);
-    records::put4(answer, 16, high);
+    records::put_number::<4>(answer, 0, said.number as usize);
+    records::put_number::<4>(answer, 4, said.index as usize);
+    records::put_number::<4>(answer, 8, said.second as usize);
+    records::put_number::<8>(answer, 12, said.tick as usize);
     said.number
 }

@@ -1,15 +1,6 @@
 use mathlib.Core.Path.{refl}
-use Rattle.telling.specs.Laws.{told}
+use Rattle.telling.specs.Laws.{told_whole}
 use Rattle.telling.proofs.tell.Goals as goal
 
 pub returns : goal.returns
-returns c =
-    let one = c.put4 in
-    let two = c.put4-2 in
-    let three = c.put4-3 in
-    let four = c.put4-4 in
-    let five = c.put4-5 in (
-      refl,
-      told c.args.answer.now one.new.block two.new.block three.new.block four.new.block five.new.block c.args.said c.requires
-          one.ensures two.ensures three.ensures four.ensures five.ensures,
-    )
+returns c = (refl, told_whole c.args.answer.now _ _ _ _ c.args.said c.requires c.put_number.ensures c.put_number-2.ensures c.put_number-3.ensures c.put_number-4.ensures)
