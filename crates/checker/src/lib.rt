@@ -6,19 +6,17 @@ ghost use Rattle.lists.specs.Lowest.{FirstAt};
 ghost use Rattle.words.specs.Refused.{shown};
 ghost use Rattle.probes.specs.Table.{widths};
 ghost use Rattle.meetings.specs.Check.{meets_above, meeting_of, Checks};
-ghost use Rattle.meetings.specs.Passing.{Passes};
 
-use pairs::{apart_at, tick_at};
+use pairs::List;
 use words::Refusal;
 
 // The least probe above i that i meets.
-fn partner(periods: &[u32], lengths: &[u32], starts: &[u32], i: usize) -> Option<usize>
-    requires passes { Passes periods.now lengths.now starts.now }
-    requires i_in_bounds { i < length periods.now }
-    ensures { FirstAt (meets_above periods.now lengths.now starts.now i) (length periods.now) result }
+fn partner(list: &List, i: usize) -> Option<usize>
+    requires { i < length list.now.periods.now }
+    ensures { FirstAt (meets_above list.now.periods.now list.now.lengths.now list.now.starts.now i) (length list.now.periods.now) result }
 {
-    for j in i + 1..periods.len() {
-        if !apart_at(periods, lengths, starts, i, j) {
+    for j in i + 1..list.periods.len() {
+        if !list.apart_at(i, j) {
             return Some(j);
         }
     }
@@ -26,13 +24,12 @@ fn partner(periods: &[u32], lengths: &[u32], starts: &[u32], i: usize) -> Option
 }
 
 // Number 10 of a list that passes 1 to 6 and 9: the pair with least first number, then least second, and its first shared tick. Each pair is looked at once at most.
-pub fn meeting(periods: &[u32], lengths: &[u32], starts: &[u32]) -> Result<(), Refusal>
-    requires { Passes periods.now lengths.now starts.now }
-    ensures { shown result ≡ meeting_of periods.now (widths 0 lengths.now) starts.now }
+pub fn meeting(list: &List) -> Result<(), Refusal>
+    ensures { shown result ≡ meeting_of list.now.periods.now (widths 0 list.now.lengths.now) list.now.starts.now }
 {
-    for i in 0..periods.len() {
-        if let Some(j) = partner(periods, lengths, starts, i) {
-            let tick = tick_at(periods, lengths, starts, i, j);
+    for i in 0..list.periods.len() {
+        if let Some(j) = partner(list, i) {
+            let tick = list.tick_at(i, j);
             return Err(Refusal::Meeting {
                 first: i as u32,
                 second: j as u32,
@@ -48,5 +45,9 @@ pub fn check(periods: &[u32], lengths: &[u32], starts: &[u32]) -> Result<(), Ref
     ensures { Checks periods.now lengths.now starts.now (shown result) }
 {
     table::judge_list(periods, lengths, starts)?;
-    meeting(periods, lengths, starts)
+    meeting(&List {
+        periods,
+        lengths,
+        starts,
+    })
 }

@@ -2,6 +2,7 @@
 --     probe_at Ts qs ss i    period, width and start of probe i
 --     Ordered a b           what the code asks of two probes: the first has the shorter period, or both have one; each start lies below its period
 --     apart_of, tick_of a b   the published condition and the first shared tick of two probes
+--     range-ordered         two probes in range are ordered by their periods
 --     passes-ordered        two probes of a list that passes 1 to 6 and 9 are ordered by their periods
 -- Assumes nothing.
 use Rattle.std.specs.Prelude.{◌≡◌, Bool, List, ℕ, ◌≤◌, ◌<◌, length, get_or}
@@ -9,7 +10,7 @@ use Rattle.wire.specs.Meeting.{apart, shared_tick}
 use Rattle.probes.specs.Table.{most_period}
 use Rattle.probes.specs.Passed.{Passes}
 use Rattle.pairs.specs.declared.Probe.{Probe}
-use Rattle.pairs.specs.Range.{passes-gives}
+use Rattle.pairs.specs.Range.{InRange, passes-gives}
 
 abbrev pub probe_at : List ℕ → List ℕ → List ℕ → ℕ → Probe
 probe_at Ts qs ss i = record { period = get_or Ts i 0; width = get_or qs i 0; start = get_or ss i 0 }
@@ -27,9 +28,10 @@ apart_of a b = apart a.period a.width a.start b.period b.width b.start
 abbrev pub tick_of : Probe → Probe → ℕ
 tick_of a b = shared_tick a.period a.width a.start b.period b.width b.start
 
+pub range-ordered : (Ts ps ss : List ℕ) (i j : ℕ) (a b : Probe) → a ≡ probe_at Ts ps ss i → b ≡ probe_at Ts ps ss j → InRange Ts ps ss i → InRange Ts ps ss j
+    → a.period ≤ b.period → Ordered a b
+range-ordered Ts ps ss i j a b e f x y l = rw (e, f) (record { begins = x.begins; shorter = rw (e, f) at l; most = y.most; short = y.short; later = y.begins })
+
 pub passes-ordered : (Ts ps ss : List ℕ) (i j : ℕ) (a b : Probe) → a ≡ probe_at Ts ps ss i → b ≡ probe_at Ts ps ss j → Passes Ts ps ss
     → i < length Ts → j < length Ts → a.period ≤ b.period → Ordered a b
-passes-ordered Ts ps ss i j a b e f p h k l =
-    let x = passes-gives Ts ps ss p i h in
-    let y = passes-gives Ts ps ss p j k in
-    rw (e, f) (record { begins = x.begins; shorter = rw (e, f) at l; most = y.most; short = y.short; later = y.begins })
+passes-ordered Ts ps ss i j a b e f p h k l = range-ordered Ts ps ss i j a b e f (passes-gives Ts ps ss p i h) (passes-gives Ts ps ss p j k) l

@@ -1,10 +1,10 @@
-// Two probes of a list: whether they ever meet, and the first tick that they share.
+// A list whose probes can be held against each other: whether two of them ever meet, and the first tick that they share.
 #![tactic(auto)]
 
 ghost use Rattle.std.specs.Prelude.{◌≡◌, ◌≤◌, ◌<◌, length};
 ghost use Rattle.wire.specs.Meeting.{lag, apart_at, tick_at};
 ghost use Rattle.probes.specs.Table.{most_period};
-ghost use Rattle.probes.specs.Passed.{Passes};
+ghost use Rattle.pairs.specs.Range.{Listed};
 ghost use Rattle.pairs.specs.Probes.{probe_at, Ordered, apart_of, tick_of};
 
 // One probe of a list: its period, the ticks that its read takes, and its start.
@@ -13,20 +13,6 @@ struct Probe {
     period: u32,
     width: u32,
     start: u32,
-}
-
-impl Probe {
-    fn at(periods: &[u32], lengths: &[u32], starts: &[u32], i: usize) -> Self
-        requires passes { Passes periods.now lengths.now starts.now }
-        requires i_in_bounds { i < length periods.now }
-        ensures { result ≡ probe_at periods.now lengths.now starts.now i }
-    {
-        Probe {
-            period: periods[i],
-            width: lengths[i],
-            start: starts[i],
-        }
-    }
 }
 
 // Two probes, the one with the shorter period first.
@@ -38,26 +24,6 @@ struct Pair {
 }
 
 impl Pair {
-    // Probes i and j.
-    fn at(periods: &[u32], lengths: &[u32], starts: &[u32], i: usize, j: usize) -> Self
-        requires passes { Passes periods.now lengths.now starts.now }
-        requires i_in_bounds { i < length periods.now }
-        requires j_in_bounds { j < length periods.now }
-        ensures apart { apart_of result.one result.other ≡ apart_at periods.now lengths.now starts.now i j }
-        ensures tick { tick_of result.one result.other ≡ tick_at periods.now lengths.now starts.now i j }
-    {
-        let one = Probe::at(periods, lengths, starts, i);
-        let other = Probe::at(periods, lengths, starts, j);
-        if one.period <= other.period {
-            Pair { one, other }
-        } else {
-            Pair {
-                one: other,
-                other: one,
-            }
-        }
-    }
-
     // d: the remainder of the second start less the first by the shorter period, from 0 up.
     #[tactic(auto, unfolding(wire::specs::Meeting::lag))]
     fn lag(&self) -> u32
@@ -100,22 +66,62 @@ impl Pair {
     }
 }
 
-// Whether probes i and j never meet: d is taken by the shorter period.
-pub fn apart_at(periods: &[u32], lengths: &[u32], starts: &[u32], i: usize, j: usize) -> bool
-    requires passes { Passes periods.now lengths.now starts.now }
-    requires i_in_bounds { i < length periods.now }
-    requires j_in_bounds { j < length periods.now }
-    ensures { result ≡ apart_at periods.now lengths.now starts.now i j }
-{
-    Pair::at(periods, lengths, starts, i, j).apart()
+// A list that passes 1 to 6 and 9: the columns of a sound table, and as many starts, each below its period.
+#[derive(Clone, Copy)]
+pub struct List<'a> {
+    pub periods: &'a [u32],
+    pub lengths: &'a [u32],
+    pub starts: &'a [u32],
+    pub ghost listed: { Listed periods.now lengths.now starts.now },
 }
 
-// Their first shared tick.
-pub fn tick_at(periods: &[u32], lengths: &[u32], starts: &[u32], i: usize, j: usize) -> u32
-    requires passes { Passes periods.now lengths.now starts.now }
-    requires i_in_bounds { i < length periods.now }
-    requires j_in_bounds { j < length periods.now }
-    ensures { result ≡ tick_at periods.now lengths.now starts.now i j }
-{
-    Pair::at(periods, lengths, starts, i, j).shared_tick()
+impl<'a> List<'a> {
+    // Probe i.
+    fn probe(&self, i: usize) -> Probe
+        requires { i < length self.now.periods.now }
+        ensures { result ≡ probe_at self.now.periods.now self.now.lengths.now self.now.starts.now i }
+    {
+        Probe {
+            period: self.periods[i],
+            width: self.lengths[i],
+            start: self.starts[i],
+        }
+    }
+
+    // Probes i and j.
+    fn pair(&self, i: usize, j: usize) -> Pair
+        requires i_in_bounds { i < length self.now.periods.now }
+        requires j_in_bounds { j < length self.now.periods.now }
+        ensures apart { apart_of result.one result.other ≡ apart_at self.now.periods.now self.now.lengths.now self.now.starts.now i j }
+        ensures tick { tick_of result.one result.other ≡ tick_at self.now.periods.now self.now.lengths.now self.now.starts.now i j }
+    {
+        let one = self.probe(i);
+        let other = self.probe(j);
+        if one.period <= other.period {
+            Pair { one, other }
+        } else {
+            Pair {
+                one: other,
+                other: one,
+            }
+        }
+    }
+
+    // Whether probes i and j never meet: d is taken by the shorter period.
+    pub fn apart_at(&self, i: usize, j: usize) -> bool
+        requires i_in_bounds { i < length self.now.periods.now }
+        requires j_in_bounds { j < length self.now.periods.now }
+        ensures { result ≡ apart_at self.now.periods.now self.now.lengths.now self.now.starts.now i j }
+    {
+        self.pair(i, j).apart()
+    }
+
+    // Their first shared tick.
+    pub fn tick_at(&self, i: usize, j: usize) -> u32
+        requires i_in_bounds { i < length self.now.periods.now }
+        requires j_in_bounds { j < length self.now.periods.now }
+        ensures { result ≡ tick_at self.now.periods.now self.now.lengths.now self.now.starts.now i j }
+    {
+        self.pair(i, j).shared_tick()
+    }
 }

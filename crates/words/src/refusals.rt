@@ -88,8 +88,7 @@ impl From<Result<Option<Held>, Refusal>> for Answer {
 
     fn from(given: Result<Option<Held>, Refusal>) -> Answer {
         match given {
-            Ok(Some(held)) => Answer::named(held.probe),
-            Ok(None) => Answer::named(Answer::MARK),
+            Ok(held) => Answer::named(held.map_or(Answer::MARK, |held| held.probe)),
             Err(refused) => Answer::from(refused),
         }
     }

@@ -1,6 +1,7 @@
 -- `checker::check` meets its contract: the judge of a list first, then the meeting. Assumes nothing.
 use Rattle.std.proofs.Common.{arith, refl}
 use Rattle.words.proofs.Refused.{refusal-above, passed-on}
+use Rattle.pairs.specs.Range.{passes-listed}
 use Rattle.meetings.specs.Passing.{zero-passes}
 use Rattle.meetings.proofs.Laws.{check-refused, check_done}
 use Rattle.checker.proofs.check.Goals as goal
@@ -9,8 +10,8 @@ pub returns-in_err-judge_list : goal.returns-in_err-judge_list
 returns-in_err-judge_list c =
     rw (passed-on _ _ _ c.from_residual.ensures.1) (check-refused _ _ _ _ c.in_err-judge_list.ensures (λ z. omega (arith, refusal-above c.in_err-judge_list.field-0.0)))
 
-pub meeting-requires : goal.meeting-requires
-meeting-requires c = zero-passes _ _ _ _ c.in_ok-judge_list.ensures refl
+pub invariant_of-meeting : goal.invariant_of-result
+invariant_of-meeting c = record { listed = passes-listed _ _ _ (zero-passes _ _ _ _ c.in_ok-judge_list.ensures refl) }
 
 pub returns : goal.returns
 returns c = check_done _ _ _ _ _ c.in_ok-judge_list.ensures refl c.meeting.ensures

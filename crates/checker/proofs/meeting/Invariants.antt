@@ -5,4 +5,4 @@ use Rattle.meetings.specs.Check.{partner}
 use Rattle.checker.proofs.meeting.Given as goal
 
 abbrev pub invariant-loop-i : goal.invariant-loop-i
-invariant-loop-i l = Searching (λ k. ltb (partner l.periods l.lengths l.starts k) (length l.periods)) (length l.periods) l.i
+invariant-loop-i l = Searching (λ k. ltb (partner l.list.periods.now l.list.lengths.now l.list.starts.now k) (length l.list.periods.now)) (length l.list.periods.now) l.i

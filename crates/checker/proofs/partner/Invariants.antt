@@ -5,4 +5,4 @@ use Rattle.meetings.specs.Check.{meets_above}
 use Rattle.checker.proofs.partner.Given as goal
 
 abbrev pub invariant-loop-j : goal.invariant-loop-j
-invariant-loop-j l = Searching (meets_above l.periods l.lengths l.starts l.i) (length l.periods) l.j
+invariant-loop-j l = Searching (meets_above l.list.periods.now l.list.lengths.now l.list.starts.now l.i) (length l.list.periods.now) l.j
