@@ -51,5 +51,5 @@ pub fn plan(
     let turns = ranks::order_of(periods, lengths);
     let rows = &mut fills[..grid.table.rows as usize];
     rows::clear(rows);
-    seating::place_all(&grid, lengths, &turns[..periods.len()], starts, rows)
+    seating::place_all(&grid, lengths, &turns, starts, rows)
 }

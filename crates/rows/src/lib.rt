@@ -29,13 +29,21 @@ pub fn lowest_row(rows: &[u32], h: usize, p: u32, w: u32) -> Option<usize>
     None
 }
 
+// Every row of a part raised by p.
+fn raise(part: &mut [u32], p: u32)
+    requires { (k : ℕ) → k < length part.old → get_or part.old k 0 + p < 4294967296 }
+    ensures { part.new ≡ raise p part.old }
+{
+    for fill in part {
+        *fill += p;
+    }
+}
+
 // The rows from y for h raised by p, and no other row.
 pub fn raise_rows(rows: &mut [u32], y: usize, h: usize, p: u32)
     requires h_in_bounds { y + h ≤ length rows.old }
     requires by_index { (k : ℕ) → k < length rows.old → get_or rows.old k 0 + p < 4294967296 }
     ensures { rows.new ≡ raised rows.old y h p }
 {
-    for fill in &mut rows[y..y + h] {
-        *fill += p;
-    }
+    raise(&mut rows[y..y + h], p);
 }

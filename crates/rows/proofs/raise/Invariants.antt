@@ -1,7 +1,7 @@
--- `rows::raise_rows` meets its contract: of the rows that are lent, those below this one are raised by p, the others as they were. Assumes nothing.
+-- `rows::raise` meets its contract: the rows below this one are raised by p, the others as they were. Assumes nothing.
 use Rattle.std.specs.Prelude.{ℕ, ◌+◌}
 use Rattle.rows.specs.Passing.{Passing}
-use Rattle.rows.proofs.raise_rows.Given as goal
+use Rattle.rows.proofs.raise.Given as goal
 
 abbrev pub plus : ℕ → ℕ → ℕ
 plus p x = x + p
