@@ -8,7 +8,6 @@ ghost use Rattle.sheets.specs.Layout.{block_bytes, sum_place};
 use edition::Book;
 
 // The bytes of a block that its sums are of.
-#[tactic(auto, using(crate::proofs::Totals::summed_long))]
 pub fn summed(block: &[u8]) -> &[u8]
     requires { length block.now ≡ block_bytes }
     ensures value { result.now ≡ take sum_place block.now }
