@@ -2,22 +2,19 @@
 #![tactic(auto)]
 
 ghost use Rattle.std.specs.Prelude.{◌≡◌};
+ghost use Rattle.words.specs.Refused.{shown};
 ghost use Rattle.hours.specs.Asking.{ask_verdict};
 
-use words::{Answer, Tick};
+use words::{Refusal, Tick};
 
 // Numbers 1 to 6, 9 and 11, in order.
-pub fn judge(periods: &[u32], lengths: &[u32], starts: &[u32], tick: u64) -> Answer
-    ensures { result ≡ ask_verdict periods.now lengths.now starts.now tick }
+pub fn judge(periods: &[u32], lengths: &[u32], starts: &[u32], tick: u64) -> Result<(), Refusal>
+    ensures { shown result ≡ ask_verdict periods.now lengths.now starts.now tick }
 {
-    let answer = table::judge_list(periods, lengths, starts);
-    let number = answer.number;
-    if number != 0 {
-        return answer;
-    }
+    table::judge_list(periods, lengths, starts)?;
     let asked = Tick { at: tick };
     if asked.too_late() {
-        return Answer::refused(11, 0);
+        return Err(Refusal::TooLate);
     }
-    Answer::done()
+    Ok(())
 }

@@ -12,6 +12,7 @@ use filling::{put_head, put_sums, put_zeros};
 use records::put_records;
 
 // Block b of the book of three columns.
+#[tactic(auto, using(edition::proofs::Counts::records_within, edition::proofs::Counts::records_end))]
 fn put_block(block: &mut [u8], periods: &[u32], lengths: &[u32], starts: &[u32], b: usize)
     requires block_len { length block.old ≡ block_bytes }
     requires periods_len_bound { length periods.now ≤ most_n }
@@ -37,11 +38,8 @@ pub fn put_blocks(periods: &[u32], lengths: &[u32], starts: &[u32], blocks: usiz
     requires block_bytes_in_bounds { blocks * block_bytes ≤ length out.old }
     ensures { out.new ≡ sets out.old 0 (run_from (block_of first_edition periods.now lengths.now starts.now) 0 blocks) }
 {
-    let mut b = 0;
-    while b < blocks {
-        let from = b * Book::BLOCK;
-        let to = from + Book::BLOCK;
-        put_block(&mut out[from..to], periods, lengths, starts, b);
-        b += 1;
+    for b in 0..blocks {
+        let at = b * Book::BLOCK;
+        put_block(&mut out[at..at + Book::BLOCK], periods, lengths, starts, b);
     }
 }

@@ -2,36 +2,33 @@
 #![tactic(auto)]
 
 ghost use Rattle.std.specs.Prelude.{◌<◌};
+ghost use Rattle.words.specs.Refused.{shown_number};
 ghost use Rattle.sheets.specs.Layout.{first_edition};
 ghost use Rattle.volumes.specs.Reading.{columns, Reads};
 
-use loading::{bad_size, judge_blocks, load};
-use words::Answer;
+use loading::{Field, bad_size, judge_blocks, load};
+use words::Refusal;
 pub use writing::write;
 
-// Reads a book of any bytes into three columns of any lengths.
-pub fn read(book: &[u8], periods: &mut [u32], lengths: &mut [u32], starts: &mut [u32]) -> Answer
-    ensures { Reads first_edition book.now periods.old lengths.old starts.old (columns result periods.new lengths.new starts.new) }
+// Reads a book of any bytes into three columns of any lengths; what is done is named by n.
+pub fn read(
+    book: &[u8],
+    periods: &mut [u32],
+    lengths: &mut [u32],
+    starts: &mut [u32],
+) -> Result<u32, Refusal>
+    ensures { Reads first_edition book.now periods.old lengths.old starts.old (columns (shown_number result) periods.new lengths.new starts.new) }
 {
     if bad_size(book) {
-        return Answer::refused(20, 0);
+        return Err(Refusal::BadSize);
     }
-    let answer = judge_blocks(book);
-    if answer.number != 0 {
-        return answer;
+    let probes = judge_blocks(book)?;
+    let n = probes as usize;
+    if periods.len() < n || lengths.len() < n || starts.len() < n {
+        return Err(Refusal::ShortColumn);
     }
-    let n = answer.index as usize;
-    if periods.len() < n {
-        return Answer::refused(24, 0);
-    }
-    if lengths.len() < n {
-        return Answer::refused(24, 0);
-    }
-    if starts.len() < n {
-        return Answer::refused(24, 0);
-    }
-    load(book, 0, n, periods);
-    load(book, 1, n, lengths);
-    load(book, 2, n, starts);
-    answer
+    load(book, Field::Period, n, periods);
+    load(book, Field::Length, n, lengths);
+    load(book, Field::Start, n, starts);
+    Ok(probes)
 }

@@ -4,7 +4,7 @@ use Rattle.std.specs.Prelude.{◌≡◌, ℕ, ◌+◌, ◌-◌, ◌*◌, ◌/◌
 use Rattle.std.proofs.Common.{arith}
 use Rattle.std.proofs.Math.Decide.{dec_lt, ℕ_discrete}
 use Rattle.sheets.specs.Layout.{first_edition, blocks_of, records_of}
-use Rattle.sheets.proofs.LayoutLaws.{blocks-none, blocks_more, blocks-room, blocks-least, records-full, records-rest, records-most}
+use Rattle.sheets.proofs.LayoutLaws.{blocks-none, blocks_more, blocks-room, blocks-least, records-full, records-rest, records-most, records-end}
 
 module _ (n : ℕ) where
   pub blocks_by_division : max (n / 41 + min 1 (n % 41)) 1 ≡ blocks_of first_edition n
@@ -20,6 +20,9 @@ module _ (n : ℕ) where
 
   pub records_within : (b : ℕ) → records_of first_edition n b ≤ 41
   records_within b = records-most first_edition (omega arith) n b
+
+  pub records_end : (b : ℕ) → b < blocks_of first_edition n → b * 41 + records_of first_edition n b ≤ n
+  records_end b h = records-end first_edition (omega arith) n b h
 
   pub records_by_limit : (b : ℕ) → b < blocks_of first_edition n → min (n - b * 41) 41 ≡ records_of first_edition n b
   records_by_limit b h = by (dec_lt (b + 1) (blocks_of first_edition n))

@@ -1,4 +1,5 @@
 -- SEARCHES BY A METHOD OF THE LIBRARY: what `position` finds in a list is the lowest place at which a test of places holds.
+--     answer-found, answer-none     what a loop answers
 --     found-at, none-at     what such an answer says of the lowest place
 --     first-at     of a test of the elements that agrees with the test of the places
 -- Assumes nothing.
@@ -8,7 +9,15 @@ use Rattle.std.proofs.lemmas.List.Sums.{prefix_len-le-length}
 use Rattle.std.specs.List.{position_or_len, list_any}
 use Rattle.lists.specs.Pick.{pick, Tells}
 use Rattle.lists.specs.Telling.{true-or-false}
-use Rattle.lists.specs.Lowest.{lowest, lowest_from, FirstAt}
+use Rattle.lists.specs.Lowest.{lowest, lowest_from, FirstAt, Searching, searching-found, searching-none}
+
+-- what a loop answers that has tried the places below i
+module _ (f : ℕ → Bool) (n i : ℕ) where
+  pub answer-found : i < n → f i ≡ true → Searching f n i → FirstAt f n (Some i)
+  answer-found h e s = (h, sym (searching-found f n i h e s))
+
+  pub answer-none : n ≤ i → Searching f n i → FirstAt f n None
+  answer-none h s = omega (arith, searching-none f n i h s, s.within)
 
 module _ (f : ℕ → Bool) (n : ℕ) (r : Option ℕ) where
   pub found-at : (i : ℕ) → FirstAt f n r → r ≡ Some i → (i < n) × (i ≡ lowest f n)

@@ -7,7 +7,7 @@
 --     checked Ts ps ss         the answer of any list, computed
 -- Edges: the first shared tick need not be the earliest of all meetings; index is below second index, whatever the periods.
 -- Assumes nothing.
-use Rattle.std.specs.Prelude.{◌≡◌, ◌⊎◌, not, List, ℕ, ◌<◌, ltb, length}
+use Rattle.std.specs.Prelude.{◌≡◌, ◌⊎◌, Bool, not, List, ℕ, ◌<◌, ltb, length}
 use Rattle.lists.specs.Pick.{pick, both}
 use Rattle.lists.specs.Lowest.{lowest}
 use Rattle.lists.specs.Refusals.{First}
@@ -29,6 +29,10 @@ module _ (Ts qs ss : List ℕ) where
 
   unfoldable pub Judged : Answer → Type 0
   Judged a = (Clean Ts qs ss × (a ≡ done)) ⊎ ((i : ℕ) × (j : ℕ) × (t : ℕ) × Meets i j t × (a ≡ pair 10 i j t))
+
+  -- probe j is above i, and i meets it
+  abbrev pub meets_above : ℕ → ℕ → Bool
+  meets_above i j = both (ltb i j) (not (apart_at Ts qs ss i j))
 
   -- the least probe above i that i meets; the number of probes where there is none
   unfoldable pub partner : ℕ → ℕ

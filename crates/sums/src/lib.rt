@@ -3,12 +3,14 @@
 
 ghost use Rattle.std.specs.Prelude.{◌≡◌, ◌≤◌, take, length};
 ghost use Rattle.sheets.specs.Bytes.{byte_sum, place_sum, all_zero};
-ghost use Rattle.sheets.specs.Layout.{sum_place};
+ghost use Rattle.sheets.specs.Layout.{block_bytes, sum_place};
 
 use edition::Book;
 
 // The bytes of a block that its sums are of.
-pub fn summed(block: &[u8; Book::BLOCK]) -> &[u8]
+#[tactic(auto, using(crate::proofs::Totals::summed_long))]
+pub fn summed(block: &[u8]) -> &[u8]
+    requires { length block.now ≡ block_bytes }
     ensures value { result.now ≡ take sum_place block.now }
     ensures len { length result.now ≡ sum_place }
 {

@@ -1,54 +1,42 @@
 // Who holds a tick, of a sound table and list, clean or not; the next start is passed on.
 #![tactic(auto)]
 
-ghost use Rattle.std.specs.Prelude.{◌≡◌, length};
-ghost use Rattle.lists.specs.Lowest.{lowest};
+ghost use Rattle.std.specs.Prelude.{length};
+ghost use Rattle.lists.specs.Lowest.{FirstAt};
+ghost use Rattle.words.specs.Refused.{shown_held};
 ghost use Rattle.hours.specs.Timetable.{holds_test, Holder};
 ghost use Rattle.hours.specs.Asking.{Asked};
 
 use asking::judge;
 use moments::holds;
 pub use upcoming::next_start;
-use words::Answer;
+use words::{Held, Refusal};
 
-// What `holder` answers: the probe that holds the tick as the index, or the mark where the wire is idle.
-#[derive(Drop)]
-pub struct Held {
-    pub answer: Answer,
-}
-
-// The lowest-numbered probe that holds the tick; the number of probes where none does.
-fn holding(periods: &[u32], lengths: &[u32], starts: &[u32], tick: u64) -> usize
+// The lowest-numbered probe that holds the tick.
+fn holding(periods: &[u32], lengths: &[u32], starts: &[u32], tick: u64) -> Option<usize>
     requires { Asked periods.now lengths.now starts.now tick }
-    ensures { result ≡ lowest (holds_test periods.now lengths.now starts.now tick) (length periods.now) }
+    ensures { FirstAt (holds_test periods.now lengths.now starts.now tick) (length periods.now) result }
 {
-    let mut i = 0;
-    while i < periods.len() {
-        let held = holds(periods[i], lengths[i], starts[i], tick);
-        if held {
-            return i;
+    for i in 0..periods.len() {
+        if holds(periods[i], lengths[i], starts[i], tick) {
+            return Some(i);
         }
-        i += 1;
     }
-    i
+    None
 }
 
 // Who holds the tick: any three columns of any length, and any tick.
-pub fn holder(periods: &[u32], lengths: &[u32], starts: &[u32], tick: u64) -> Held
-    ensures { Holder periods.now lengths.now starts.now tick result.answer }
+pub fn holder(
+    periods: &[u32],
+    lengths: &[u32],
+    starts: &[u32],
+    tick: u64,
+) -> Result<Option<Held>, Refusal>
+    ensures { Holder periods.now lengths.now starts.now tick (shown_held result) }
 {
-    let answer = judge(periods, lengths, starts, tick);
-    let number = answer.number;
-    if number != 0 {
-        return Held { answer };
-    }
-    let i = holding(periods, lengths, starts, tick);
-    if i < periods.len() {
-        return Held {
-            answer: Answer::refused(0, i as u32),
-        };
-    }
-    Held {
-        answer: Answer::refused(0, Answer::MARK),
+    judge(periods, lengths, starts, tick)?;
+    match holding(periods, lengths, starts, tick) {
+        Some(i) => Ok(Some(Held { probe: i as u32 })),
+        None => Ok(None),
     }
 }

@@ -40,16 +40,16 @@ shown r = answered (λ u. done) r
 abbrev pub shown_number : Result ℕ Refusal → Answer
 shown_number r = answered named r
 
-abbrev pub held_answer : Option Held → Answer
-held_answer None = named mark
-held_answer (Some h) = named h.probe
+abbrev pub held_shown : Option Held → Answer
+held_shown None = named mark
+held_shown (Some h) = named h.probe
 
 abbrev pub shown_held : Result (Option Held) Refusal → Answer
-shown_held r = answered held_answer r
+shown_held r = answered held_shown r
 
-abbrev pub next_answer : Option NextStart → Answer
-next_answer None = named mark
-next_answer (Some n) = pair 0 n.probe 0 n.tick
+abbrev pub next_shown : Option NextStart → Answer
+next_shown None = named mark
+next_shown (Some n) = pair 0 n.probe 0 n.tick
 
 abbrev pub shown_next : Result (Option NextStart) Refusal → Answer
-shown_next r = answered next_answer r
+shown_next r = answered next_shown r

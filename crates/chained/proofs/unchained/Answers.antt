@@ -1,6 +1,7 @@
 -- `chained::unchained` meets its contract: the kept periods are the different ones of the probes passed, and stand for every earlier probe. Assumes nothing.
-use Rattle.std.proofs.Common.{arith, sym, refl, length-append, get_or, [], ◌∷◌}
-use Rattle.lists.specs.Lowest.{searching-start, searching-next, searching-found, searching-none}
+use Rattle.std.proofs.Common.{arith, refl, length-append, get_or, [], ◌∷◌}
+use Rattle.lists.specs.Lowest.{searching-start, searching-next}
+use Rattle.lists.proofs.Searches.{answer-found, answer-none}
 use Rattle.probes.proofs.Seen.{keeping_start, keeping-positive, keeping-seen, seen_more, keeping-clash, keeping-new, new-room, new-more, seen-told, clashes-told}
 use Rattle.chained.proofs.unchained.Goals as goal
 use Rattle.chained.proofs.unchained.Goals.{then-not-is_seen+else-clashes, else-not-is_seen}
@@ -17,7 +18,7 @@ pub returns-then-clashes : goal.returns-then-clashes
 returns-then-clashes c =
     let l = c.loop-i in
     let clash = (clashes-told l.seen.items _ _ c.clashes.result c.deref-then-not-is_seen.ensures.0 c.clashes.ensures).yes c.if-clashes.true in
-    (omega arith, sym (searching-found _ _ l.i (omega arith) (keeping-clash _ _ _ l.i l.invariant.0 clash) l.invariant.1))
+    answer-found _ _ l.i (omega arith) (keeping-clash _ _ _ l.i l.invariant.0 clash) l.invariant.1
 
 pub push-requires : goal.push-requires
 push-requires c =
@@ -43,4 +44,4 @@ loop-i-preserved c =
     ]
 
 pub returns : goal.returns
-returns c = omega (arith, searching-none _ _ c.loop-i.i (omega arith) c.loop-i.invariant.1, c.loop-i.invariant.1.within)
+returns c = answer-none _ _ c.loop-i.i (omega arith) c.loop-i.invariant.1

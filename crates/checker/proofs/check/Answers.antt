@@ -1,26 +1,16 @@
 -- `checker::check` meets its contract: the judge of a list first, then the meeting. Assumes nothing.
+use Rattle.std.proofs.Common.{arith, refl}
+use Rattle.words.proofs.Refused.{refusal-above, passed-on}
 use Rattle.meetings.specs.Passing.{zero-passes}
 use Rattle.meetings.proofs.Laws.{check-refused, check_done}
-use borrow.Author.Rules.{rules}
 use Rattle.checker.proofs.check.Goals as goal
 
-pub returns-then-number-ne0 : goal.returns-then-number-ne0
-returns-then-number-ne0 c =
-    let Ts = c.args.periods.now in
-    let ps = c.args.lengths.now in
-    let ss = c.args.starts.now in
-    check-refused Ts ps ss _ c.judge_list-answer.ensures c.if-number-ne0.true
+pub returns-in_err-judge_list : goal.returns-in_err-judge_list
+returns-in_err-judge_list c =
+    rw (passed-on _ _ _ c.from_residual.ensures.1) (check-refused _ _ _ _ c.in_err-judge_list.ensures (λ z. omega (arith, refusal-above c.in_err-judge_list.field-0.0)))
 
 pub meeting-requires : goal.meeting-requires
-meeting-requires c =
-    let Ts = c.args.periods.now in
-    let ps = c.args.lengths.now in
-    let ss = c.args.starts.now in
-    zero-passes Ts ps ss _ c.judge_list-answer.ensures c.if-number-ne0.false
+meeting-requires c = zero-passes _ _ _ _ c.in_ok-judge_list.ensures refl
 
 pub returns : goal.returns
-returns c =
-    let Ts = c.args.periods.now in
-    let ps = c.args.lengths.now in
-    let ss = c.args.starts.now in
-    check_done Ts ps ss _ _ c.judge_list-answer.ensures c.if-number-ne0.false c.meeting.ensures
+returns c = check_done _ _ _ _ _ c.in_ok-judge_list.ensures refl c.meeting.ensures

@@ -1,104 +1,46 @@
--- `loading::judge_blocks` meets its contract: the blocks below b are right, so the answer for the rest is the answer. Assumes nothing.
-use mathlib.Core.Path.{sym, ap, ◌∙◌}
-use Prim.Native.Nat.{ℕ, ◌-◌, ◌/◌}
-use native.Mathlib.Omega.{arith}
-use lib.ListN.{length}
-use Rattle.sheets.specs.Layout.{first_edition}
-use Rattle.sheets.specs.ByteLaws.{word_two}
+-- `loading::judge_blocks` meets its contract: the blocks below b have no fault. Assumes nothing.
+use Rattle.std.proofs.Common.{ℕ, ◌∙◌, sym, ap, arith, refl}
 use Rattle.words.specs.Answers.{refused}
+use Rattle.sheets.specs.Layout.{first_edition}
 use Rattle.sheets.specs.Blocks.{blocks_in, n_of}
-use Rattle.sheets.proofs.BlocksLaws.{size-tested, Searched, searched-start, searched-next, searched-found, searched-none}
-use Rattle.sheets.proofs.Loading.{part-long, part-verdict}
-use borrow.Author.Rules.{rules}
+use Rattle.sheets.proofs.BlocksLaws.{size-tested, searched-start, searched-next, searched-found, searched-none}
+use Rattle.sheets.proofs.Loading.{passed}
+use Rattle.loading.proofs.Chunks.{chunk-verdict, fault-above}
 use Rattle.loading.proofs.judge_blocks.Goals as goal
 
-pub two-n-requires : goal.two-n-requires
-two-n-requires c =
-    let B = c.args.book.now in
-    let s = size-tested first_edition B c.requires in
+pub number-n-requires-clause-at_in_bounds : goal.number-n-requires-clause-at_in_bounds
+number-n-requires-clause-at_in_bounds c =
+    let s = size-tested first_edition c.args.book.now c.requires in
     omega arith
 
 pub loop-b-init : goal.loop-b-init
 loop-b-init c = searched-start first_edition _
 
-pub overflow_mul-from : goal.overflow_mul-from
-overflow_mul-from c =
-    let l = c.loop-b in
-    let B = c.args.book.now in
-    let s = size-tested first_edition B c.requires in
-    omega arith
-
-pub overflow_add-to : goal.overflow_add-to
-overflow_add-to c =
-    let l = c.loop-b in
-    let B = c.args.book.now in
-    let s = size-tested first_edition B c.requires in
-    omega arith
-
-pub slice_bounds-verdict-count : goal.slice_bounds-verdict-count
-slice_bounds-verdict-count c =
-    let l = c.loop-b in
-    let B = c.args.book.now in
-    let s = size-tested first_edition B c.requires in
-    omega arith
-
-pub verdict-verdict-requires : goal.verdict-verdict-requires
-verdict-verdict-requires c =
-    let l = c.loop-b in
-    let B = c.args.book.now in
-    let s = size-tested first_edition B c.requires in
-    record { block_len = part-long B l.b (omega arith); b_lt_blocks = omega arith }
-
 pub overflow_cast-b : goal.overflow_cast-b
 overflow_cast-b c =
-    let l = c.loop-b in
-    let B = c.args.book.now in
-    let s = size-tested first_edition B c.requires in
+    let s = size-tested first_edition c.args.book.now c.requires in
     omega arith
 
-pub returns-then-verdict-ne0 : goal.returns-then-verdict-ne0
+pub returns-in-Err-clause-judged : goal.returns-in-Err-clause-judged
 unfolding blocks_in
-returns-then-verdict-ne0 c =
-    let l = c.loop-b in
+returns-in-Err-clause-judged c =
     let B = c.args.book.now in
-    let s = size-tested first_edition B c.requires in
-    let v = part-verdict B l.b first_edition c.verdict-verdict.result c.two-n.result c.two-n.ensures c.verdict-verdict.ensures in
-    c.refused.ensures ∙ ap (λ (r : ℕ). refused r l.b) v ∙ searched-found first_edition B l.b (omega arith) (λ e. c.if-verdict-ne0.true (v ∙ e)) l.invariant
-
-pub overflow_add-b : goal.overflow_add-b
-overflow_add-b c =
-    let l = c.loop-b in
-    let B = c.args.book.now in
-    let s = size-tested first_edition B c.requires in
-    omega arith
-
-pub loop-b-smaller : goal.loop-b-smaller
-loop-b-smaller c =
-    let l = c.loop-b in
-    let B = c.args.book.now in
-    let s = size-tested first_edition B c.requires in
-    omega arith
+    let b = c.loop-b.b in
+    let v = chunk-verdict B _ _ b _ _ _ c.as_chunks.ensures.front c.as_chunks.ensures.front_len c.loop-b-test.true c.number-n.ensures c.in-Err.ensures in
+    c.refused.ensures ∙ ap (λ (r : ℕ). refused r b) v ∙ searched-found first_edition B b (omega arith) (λ e. fault-above c.in-Err.fault (v ∙ e)) c.loop-b.invariant
 
 pub loop-b-preserved : goal.loop-b-preserved
 unfolding blocks_in
 loop-b-preserved c =
-    let l = c.loop-b in
     let B = c.args.book.now in
-    let s = size-tested first_edition B c.requires in
-    let v = part-verdict B l.b first_edition c.verdict-verdict.result c.two-n.result c.two-n.ensures c.verdict-verdict.ensures in
-    searched-next first_edition B l.b (omega arith) (sym v ∙ c.if-verdict-ne0.false) l.invariant
-
-pub overflow_cast-n : goal.overflow_cast-n
-overflow_cast-n c =
-    let B = c.args.book.now in
-    let s = size-tested first_edition B c.requires in
-    let e = c.two-n.ensures in
-    omega (arith, word_two B 6 (omega arith), c.type_inv.book 6, c.type_inv.book 7)
+    let b = c.loop-b.b in
+    let v = chunk-verdict B _ _ b _ _ _ c.as_chunks.ensures.front c.as_chunks.ensures.front_len c.loop-b-test.true c.number-n.ensures c.in_default.ensures in
+    searched-next first_edition B b (omega arith) (sym v) c.loop-b.invariant
 
 pub returns : goal.returns
 unfolding blocks_in n_of
 returns c =
-    let l = c.loop-b in
     let B = c.args.book.now in
-    let s = size-tested first_edition B c.requires in
-    c.refused-2.ensures ∙ ap (λ (r : ℕ). refused 0 r) c.two-n.ensures ∙ searched-none first_edition B l.b (omega arith) l.invariant
+    let e = ap (λ (n : ℕ). refused 0 n) c.number-n.ensures ∙ searched-none first_edition B c.loop-b.b (omega arith) c.loop-b.invariant in
+    let p = passed B (refused 0 c.number-n.result) c.requires e refl in
+    record { judged = e; few = p.few; room = p.room }

@@ -1,136 +1,44 @@
 -- `loading::load` meets its contract: the entries below i are those of the records. Assumes nothing.
-use mathlib.Core.Path.{◌≡◌, refl, ap, ◌∙◌}
-use mathlib.Core.List.{◌++◌}
-use Prim.Native.Nat.{ℕ, ◌+◌, ◌-◌, ◌≤◌}
-use native.Mathlib.Omega.{arith}
-use lib.ListN.{length, drop}
+use Rattle.std.proofs.Common.{◌≡◌, ◌≤◌, ◌++◌, refl, ap, ◌∙◌, arith, ℕ, List, length, take, drop, length-take-le}
+use Rattle.std.proofs.lemmas.List.{append-nil}
+use Rattle.std.proofs.Math.ListN.{drop_of_length-le}
 use Rattle.sheets.specs.Layout.{first_edition}
 use Rattle.sheets.specs.Blocks.{field, column}
-use Rattle.sheets.proofs.Loading.{field_room, load-long, load-next}
-use borrow.Author.Rules.{rules}
+use Rattle.sheets.proofs.Loading.{field_room, load-next}
+use Rattle.loading.specs.declared.Field.{Field}
+use Rattle.loading.specs.declared.Field.TheVariants.{Period, Length, Start}
+use Rattle.loading.specs.Fields.{field_number}
 use Rattle.loading.proofs.load.Goals as goal
+
+field-most : (f : Field) → field_number f ≤ 2
+field-most Period = omega arith
+field-most Length = omega arith
+field-most Start = omega arith
 
 pub loop-i-init : goal.loop-i-init
 unfolding column
-loop-i-init c = (omega arith, refl)
+loop-i-init c = refl
 
-pub overflow_mul-block : goal.overflow_mul-block
-overflow_mul-block c =
-    let l = c.loop-i in
-    let B = c.args.book.now in
-    let f = c.args.f in
-    let n = c.args.n in
-    let l0 = c.args.into.now in
-    let r = field_room n f l.i (length B) (omega arith) (omega arith) (omega arith) c.requires.block_bytes_in_bounds in
-    omega arith
-
-pub overflow_mul-record : goal.overflow_mul-record
-overflow_mul-record c =
-    let l = c.loop-i in
-    let B = c.args.book.now in
-    let f = c.args.f in
-    let n = c.args.n in
-    let l0 = c.args.into.now in
-    let r = field_room n f l.i (length B) (omega arith) (omega arith) (omega arith) c.requires.block_bytes_in_bounds in
-    omega arith
-
-pub overflow_add-block : goal.overflow_add-block
-overflow_add-block c =
-    let l = c.loop-i in
-    let B = c.args.book.now in
-    let f = c.args.f in
-    let n = c.args.n in
-    let l0 = c.args.into.now in
-    let r = field_room n f l.i (length B) (omega arith) (omega arith) (omega arith) c.requires.block_bytes_in_bounds in
-    omega arith
-
-pub overflow_add-block-in-loop-i : goal.overflow_add-block-in-loop-i
-overflow_add-block-in-loop-i c =
-    let l = c.loop-i in
-    let B = c.args.book.now in
-    let f = c.args.f in
-    let n = c.args.n in
-    let l0 = c.args.into.now in
-    let r = field_room n f l.i (length B) (omega arith) (omega arith) (omega arith) c.requires.block_bytes_in_bounds in
-    omega arith
-
-pub overflow_mul-f : goal.overflow_mul-f
-overflow_mul-f c =
-    let l = c.loop-i in
-    let B = c.args.book.now in
-    let f = c.args.f in
-    let n = c.args.n in
-    let l0 = c.args.into.now in
-    let r = field_room n f l.i (length B) (omega arith) (omega arith) (omega arith) c.requires.block_bytes_in_bounds in
-    omega arith
-
-pub overflow_add-block-in-loop-i-2 : goal.overflow_add-block-in-loop-i-2
-overflow_add-block-in-loop-i-2 c =
-    let l = c.loop-i in
-    let B = c.args.book.now in
-    let f = c.args.f in
-    let n = c.args.n in
-    let l0 = c.args.into.now in
-    let r = field_room n f l.i (length B) (omega arith) (omega arith) (omega arith) c.requires.block_bytes_in_bounds in
-    omega arith
-
-pub four-requires : goal.four-requires
-four-requires c =
-    let l = c.loop-i in
-    let B = c.args.book.now in
-    let f = c.args.f in
-    let n = c.args.n in
-    let l0 = c.args.into.now in
-    let r = field_room n f l.i (length B) (omega arith) (omega arith) (omega arith) c.requires.block_bytes_in_bounds in
-    r
-
-pub offset_bounds-into-i : goal.offset_bounds-into-i
-offset_bounds-into-i c =
-    let l = c.loop-i in
-    let B = c.args.book.now in
-    let f = c.args.f in
-    let n = c.args.n in
-    let l0 = c.args.into.now in
-    let long = load-long first_edition B f l0 l.into l.i l.invariant.1 (omega arith) in
-    omega arith
-
-pub bounds-into-i : goal.bounds-into-i
-bounds-into-i c =
-    let l = c.loop-i in
-    let B = c.args.book.now in
-    let f = c.args.f in
-    let n = c.args.n in
-    let l0 = c.args.into.now in
-    let long = load-long first_edition B f l0 l.into l.i l.invariant.1 (omega arith) in
-    omega arith
+pub number-requires-clause-at_in_bounds : goal.number-requires-clause-at_in_bounds
+number-requires-clause-at_in_bounds c =
+    let long = length-take-le c.args.n c.args.into.now c.requires.n_in_bounds in
+    omega (arith, field_room c.args.n (field_number c.args.field) c.loop-i.i _ (field-most c.args.field) (omega arith) c.requires.n_le_most_n c.requires.block_bytes_in_bounds)
 
 pub loop-i-preserved : goal.loop-i-preserved
 unfolding field
 loop-i-preserved c =
-    let l = c.loop-i in
-    let B = c.args.book.now in
-    let f = c.args.f in
-    let n = c.args.n in
-    let l0 = c.args.into.now in
-    let long = load-long first_edition B f l0 l.into l.i l.invariant.1 (omega arith) in
-    (omega arith, load-next first_edition B f l0 l.into l.i l.invariant.1 (omega arith) _ c.four.ensures)
+    load-next first_edition c.args.book.now (field_number c.args.field) (take c.args.n c.args.into.now) c.loop-i.entry-items c.loop-i.i c.loop-i.invariant c.loop-i-test.true _
+    (c.number.ensures ∙ rw c.place.ensures)
 
-pub shape_of-into : goal.shape_of-into
-shape_of-into c =
-    let l = c.loop-i in
-    let B = c.args.book.now in
-    let f = c.args.f in
-    let n = c.args.n in
-    let l0 = c.args.into.now in
-    let long = load-long first_edition B f l0 l.into l.i l.invariant.1 (omega arith) in
-    long
+-- where every entry of a part is one of the column, the part is the column
+whole : (xs l₀ : List ℕ) (col : ℕ → List ℕ) (i n : ℕ) → n ≤ length l₀ → i ≡ n → xs ≡ col i ++ drop i (take n l₀) → xs ≡ col n
+whole xs l₀ col i n h e f =
+    let all = drop_of_length-le (take n l₀) {i = n} (omega (arith, length-take-le n l₀ h)) in
+    f ∙ rw (e, all) (append-nil (col n))
 
 pub returns : goal.returns
 returns c =
-    let l = c.loop-i in
-    let B = c.args.book.now in
-    let f = c.args.f in
-    let n = c.args.n in
-    let l0 = c.args.into.now in
-    let e : l.i ≡ n = omega arith in
-    l.invariant.1 ∙ ap (λ (i : ℕ). column first_edition B f 0 i ++ drop i l0) e
+    let a = c.args in
+    let long = length-take-le a.n a.into.now c.requires.n_in_bounds in
+    ap (λ (xs : List ℕ). xs ++ drop a.n a.into.now)
+    (whole c.loop-i.entry-items a.into.now (column first_edition a.book.now (field_number a.field) 0) c.loop-i.i a.n c.requires.n_in_bounds (omega arith) c.loop-i.invariant)

@@ -31,7 +31,7 @@ of-requires c =
 pub overflow_cast-result : goal.overflow_cast-result
 overflow_cast-result c =
     let s = sound-gives _ _ (zero-sound _ _ _ c.in_ok-judge.ensures refl) in
-    let at = found-at (off_grid c.args.periods.now c.args.xs.now c.args.ys.now) _ _ _ (rw c.of.ensures at c.off_grid.ensures) c.in-Some.is in
+    let at = found-at (off_grid c.args.periods.now _ _) _ _ _ (rw c.of.ensures at c.off_grid.ensures) c.in-Some.is in
     omega (arith, s.few, at.0)
 
 pub returns-in-Some : goal.returns-in-Some

@@ -1,50 +1,31 @@
 -- `timetable::holder` meets its contract: the judge first, then the lowest probe that holds the tick. Assumes nothing.
-use mathlib.Core.Path.{◌∙◌}
-use native.Mathlib.Omega.{arith}
+use Rattle.std.proofs.Common.{refl, arith}
+use Rattle.lists.proofs.Searches.{found-at, none-at}
+use Rattle.words.proofs.Refused.{refusal-above, passed-on}
 use Rattle.probes.proofs.Laws.{sound-gives}
+use Rattle.hours.specs.Timetable.{holds_test}
 use Rattle.hours.specs.Asking.{zero-asked}
 use Rattle.hours.proofs.HolderLaws.{holder-found, holder-idle, holder-refused, holder-done}
-use borrow.Author.Rules.{rules}
 use Rattle.timetable.proofs.holder.Goals as goal
 
-pub returns-then-number-ne0 : goal.returns-then-number-ne0
-returns-then-number-ne0 c =
-    let Ts = c.args.periods.now in
-    let ps = c.args.lengths.now in
-    let ss = c.args.starts.now in
-    let t = c.args.tick in
-    holder-refused Ts ps ss t _ c.judge-answer.ensures c.if-number-ne0.true
+pub returns-in_err-judge : goal.returns-in_err-judge
+returns-in_err-judge c =
+    rw (passed-on _ _ _ c.from_residual.ensures.1) (holder-refused _ _ _ _ _ c.in_err-judge.ensures (λ z. omega (arith, refusal-above c.in_err-judge.field-0.0)))
 
-pub holding-i-requires : goal.holding-i-requires
-holding-i-requires c =
-    let Ts = c.args.periods.now in
-    let ps = c.args.lengths.now in
-    let ss = c.args.starts.now in
-    let t = c.args.tick in
-    zero-asked Ts ps ss t _ c.judge-answer.ensures c.if-number-ne0.false
+pub holding-requires : goal.holding-requires
+holding-requires c = zero-asked _ _ _ _ _ c.in_ok-judge.ensures refl
 
-pub overflow_cast-i : goal.overflow_cast-i
-overflow_cast-i c =
-    let Ts = c.args.periods.now in
-    let ps = c.args.lengths.now in
-    let ss = c.args.starts.now in
-    let t = c.args.tick in
-    omega (arith, (sound-gives Ts ps (zero-asked Ts ps ss t _ c.judge-answer.ensures c.if-number-ne0.false).sound).few)
+pub overflow_cast-result : goal.overflow_cast-result
+overflow_cast-result c =
+    let at = found-at (holds_test c.args.periods.now c.args.lengths.now c.args.starts.now c.args.tick) _ _ _ c.holding.ensures c.in-Some.is in
+    omega (arith, (sound-gives _ _ (zero-asked _ _ _ _ _ c.in_ok-judge.ensures refl).sound).few, at.0)
 
-pub returns-then-i-periods : goal.returns-then-i-periods
-returns-then-i-periods c =
-    let Ts = c.args.periods.now in
-    let ps = c.args.lengths.now in
-    let ss = c.args.starts.now in
-    let t = c.args.tick in
-    holder-done Ts ps ss t _ _ c.judge-answer.ensures c.if-number-ne0.false
-    (c.refused.ensures ∙ holder-found Ts ps ss t _ c.holding-i.ensures (omega arith))
+pub returns-in-Some : goal.returns-in-Some
+returns-in-Some c =
+    let at = found-at (holds_test c.args.periods.now c.args.lengths.now c.args.starts.now c.args.tick) _ _ _ c.holding.ensures c.in-Some.is in
+    holder-done _ _ _ _ _ _ c.in_ok-judge.ensures refl (holder-found _ _ _ _ _ at.1 at.0)
 
-pub returns : goal.returns
-returns c =
-    let Ts = c.args.periods.now in
-    let ps = c.args.lengths.now in
-    let ss = c.args.starts.now in
-    let t = c.args.tick in
-    holder-done Ts ps ss t _ _ c.judge-answer.ensures c.if-number-ne0.false
-    (c.refused-2.ensures ∙ holder-idle Ts ps ss t _ c.holding-i.ensures (omega arith))
+pub returns-in-None : goal.returns-in-None
+returns-in-None c =
+    let none = none-at (holds_test c.args.periods.now c.args.lengths.now c.args.starts.now c.args.tick) _ _ c.holding.ensures c.in-None.is in
+    holder-done _ _ _ _ _ _ c.in_ok-judge.ensures refl (holder-idle _ _ _ _ _ refl none)

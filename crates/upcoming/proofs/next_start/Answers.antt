@@ -1,29 +1,16 @@
--- `timetable::next_start` meets its contract: the judge first, then the next start. Assumes nothing.
+-- `upcoming::next_start` meets its contract: the judge first, then the next start. Assumes nothing.
+use Rattle.std.proofs.Common.{refl, arith}
+use Rattle.words.proofs.Refused.{refusal-above, passed-on}
 use Rattle.hours.specs.Asking.{zero-asked, asked-timed}
 use Rattle.hours.proofs.NextLaws.{next-refused, next-done}
-use borrow.Author.Rules.{rules}
 use Rattle.upcoming.proofs.next_start.Goals as goal
 
-pub returns-then-number-ne0 : goal.returns-then-number-ne0
-returns-then-number-ne0 c =
-    let Ts = c.args.periods.now in
-    let ps = c.args.lengths.now in
-    let ss = c.args.starts.now in
-    let t = c.args.tick in
-    next-refused Ts ps ss t _ c.judge-answer.ensures c.if-number-ne0.true
+pub returns-in_err-judge : goal.returns-in_err-judge
+returns-in_err-judge c =
+    rw (passed-on _ _ _ c.from_residual.ensures.1) (next-refused _ _ _ _ _ c.in_err-judge.ensures (λ z. omega (arith, refusal-above c.in_err-judge.field-0.0)))
 
 pub soonest-requires : goal.soonest-requires
-soonest-requires c =
-    let Ts = c.args.periods.now in
-    let ps = c.args.lengths.now in
-    let ss = c.args.starts.now in
-    let t = c.args.tick in
-    asked-timed Ts ps ss t (zero-asked Ts ps ss t _ c.judge-answer.ensures c.if-number-ne0.false)
+soonest-requires c = asked-timed _ _ _ _ (zero-asked _ _ _ _ _ c.in_ok-judge.ensures refl)
 
 pub returns : goal.returns
-returns c =
-    let Ts = c.args.periods.now in
-    let ps = c.args.lengths.now in
-    let ss = c.args.starts.now in
-    let t = c.args.tick in
-    next-done Ts ps ss t _ _ c.judge-answer.ensures c.if-number-ne0.false c.soonest.ensures
+returns c = next-done _ _ _ _ _ _ c.in_ok-judge.ensures refl c.soonest.ensures
