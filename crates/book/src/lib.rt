@@ -11,6 +11,7 @@ use words::Refusal;
 pub use writing::write;
 
 // Reads a book of any bytes into three columns of any lengths; what is done is named by n.
+#[tactic(auto, using(volumes::specs::ReadLaws::reads_as, crate::proofs::Ways::block_refused, crate::proofs::Ways::columns_filled), unfolding(volumes::specs::Reading::read_of, volumes::specs::Reading::read_findings, lists::specs::Answering::first_of))]
 pub fn read(
     book: &[u8],
     periods: &mut [u32],
