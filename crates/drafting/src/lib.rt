@@ -1,39 +1,46 @@
 // The text of a table that is planned.
 #![tactic(auto)]
 
-ghost use Rattle.std.specs.Prelude.{◌≡◌, ◌≤◌, length};
-ghost use Rattle.probes.specs.Table.{most_probes};
-ghost use Rattle.text.specs.Putting.{Put};
-ghost use Rattle.paper.specs.Printed.{ran, plan_text, planned_in};
+ghost use Rattle.std.specs.Prelude.{◌++◌, ◌+◌, ◌≤◌, length};
+ghost use Rattle.probes.specs.Table.{most_probes, rows};
+ghost use Rattle.text.specs.Printing.{Puts};
+ghost use Rattle.lines.specs.Lines.{head_line, probe_lines};
+ghost use Rattle.paper.specs.Printed.{plan_text, planned_in};
 ghost use Rattle.paper.specs.Paper.{most_plan};
 
 use table::Table;
+use text::Printer;
+use words::{Answer, Refusal};
 
-// Whether the planner ran: it answered 0 or 8.
-fn ran(number: u32) -> bool
-    ensures { result ≡ ran number }
+// The lines of a planned table: number, n and H, and then its probes.
+#[tactic(auto, using(text::specs::Printing::puts_length))]
+fn put_table(printer: &mut Printer, number: u32, periods: &[u32], lengths: &[u32], starts: &[u32])
+    requires few { length periods.now ≤ most_probes }
+    requires lengths { length periods.now ≤ length lengths.now }
+    requires starts { length periods.now ≤ length starts.now }
+    requires room { printer.old.at + most_plan ≤ length printer.old.page.now }
+    ensures puts { Puts printer.old (head_line number (length periods.now) (rows periods.now) ++ probe_lines periods.now lengths.now starts.now 0 (length periods.now)) printer.new }
+    ensures upper_bound { printer.new.at ≤ printer.old.at + most_plan }
 {
-    if number == 0 {
-        return true;
-    }
-    number == 8
+    let table = Table::of(periods);
+    first_lines::put_head(printer, number, periods.len() as u32, table.rows);
+    probe_lines::put_probes(printer, periods, lengths, starts);
 }
 
-// The text of a table that is planned: its plan, or the refusal.
-pub fn put_plan(out: &mut [u8], periods: &[u32], lengths: &[u32]) -> usize
-    requires periods_len_bound { length periods.now ≤ most_probes }
-    requires most_plan_in_bounds { most_plan ≤ length out.old }
-    ensures put { Put out.old 0 (plan_text periods.now lengths.now (planned_in periods.now lengths.now)) result out.new }
-    ensures upper_bound { result ≤ most_plan }
+// The text of a table that is planned: its plan, also where a probe has no place, or the refusal.
+pub fn put_plan(printer: &mut Printer, periods: &[u32], lengths: &[u32])
+    requires few { length periods.now ≤ most_probes }
+    requires room { printer.old.at + most_plan ≤ length printer.old.page.now }
+    ensures puts { Puts printer.old (plan_text periods.now lengths.now (planned_in periods.now lengths.now)) printer.new }
+    ensures upper_bound { printer.new.at ≤ printer.old.at + most_plan }
 {
     let mut starts = [0u32; Table::PROBES];
     let mut fills = [0u32; Table::ROWS as usize];
-    let answer = packing::plan(periods, lengths, &mut starts, &mut fills);
-    let number = answer.number;
-    if ran(number) {
-        let table = Table::of(periods);
-        let at = first_lines::put_head(out, number, periods.len() as u32, table.rows);
-        return probe_lines::put_probes(out, at, periods, lengths, &starts);
+    match packing::plan(periods, lengths, &mut starts, &mut fills) {
+        Ok(()) => put_table(printer, 0, periods, lengths, &starts),
+        Err(refused) => match refused {
+            Refusal::NoPlace(_) => put_table(printer, 8, periods, lengths, &starts),
+            _ => first_lines::put_answer(printer, Answer::from(refused)),
+        },
     }
-    first_lines::put_answer(out, answer)
 }

@@ -1,46 +1,24 @@
-use mathlib.Core.Path.{sym}
 use native.Mathlib.Omega.{arith}
-use lib.Seq.{length-take-le}
-use borrow.Author.Rules.{rules}
-use Rattle.questions.proofs.Asking.{opened-few, answers-refused, answers-opened}
+use Rattle.replies.proofs.Opened.{opened_few, answers_refused, taken}
 use Rattle.replies.proofs.reply.Goals as goal
 
-pub returns-then-number-ne0 : goal.returns-then-number-ne0
-returns-then-number-ne0 c =
-    let r = c.read-read in
-    answers-refused _ _ _ _ _ r.ensures _ c.if-number-ne0.true
-
 pub slice_bounds-periods-end : goal.slice_bounds-periods-end
-slice_bounds-periods-end c =
-    let r = c.read-read in
-    omega (arith, r.auto.periods, opened-few _ _ _ _ _ r.ensures c.if-number-ne0.false)
+slice_bounds-periods-end c = omega (arith, c.read.auto.periods, opened_few _ _ _ _ _ (c.in-Ok.ensures {u = tt}))
 
 pub slice_bounds-ask-end : goal.slice_bounds-ask-end
-slice_bounds-ask-end c =
-    let r = c.read-read in
-    sym (length-take-le r.result.index r.new.periods (omega (arith, r.auto.periods, opened-few _ _ _ _ _ r.ensures c.if-number-ne0.false)))
+slice_bounds-ask-end c = taken _ _ (omega (arith, c.read.auto.periods, opened_few _ _ _ _ _ (c.in-Ok.ensures {u = tt})))
 
 pub slice_bounds-lengths-end : goal.slice_bounds-lengths-end
-slice_bounds-lengths-end c =
-    let r = c.read-read in
-    omega (arith, r.auto.lengths, opened-few _ _ _ _ _ r.ensures c.if-number-ne0.false)
+slice_bounds-lengths-end c = omega (arith, c.read.auto.lengths, opened_few _ _ _ _ _ (c.in-Ok.ensures {u = tt}))
 
-pub slice_bounds-ask-end-2 : goal.slice_bounds-ask-end-2
-slice_bounds-ask-end-2 c =
-    let r = c.read-read in
-    sym (length-take-le r.result.index r.new.lengths (omega (arith, r.auto.lengths, opened-few _ _ _ _ _ r.ensures c.if-number-ne0.false)))
+pub slice_bounds-ask-end-in-Ok : goal.slice_bounds-ask-end-in-Ok
+slice_bounds-ask-end-in-Ok c = taken _ _ (omega (arith, c.read.auto.lengths, opened_few _ _ _ _ _ (c.in-Ok.ensures {u = tt})))
 
 pub slice_bounds-starts-end : goal.slice_bounds-starts-end
-slice_bounds-starts-end c =
-    let r = c.read-read in
-    omega (arith, r.auto.starts, opened-few _ _ _ _ _ r.ensures c.if-number-ne0.false)
+slice_bounds-starts-end c = omega (arith, c.read.auto.starts, opened_few _ _ _ _ _ (c.in-Ok.ensures {u = tt}))
 
-pub slice_bounds-ask-end-3 : goal.slice_bounds-ask-end-3
-slice_bounds-ask-end-3 c =
-    let r = c.read-read in
-    sym (length-take-le r.result.index r.new.starts (omega (arith, r.auto.starts, opened-few _ _ _ _ _ r.ensures c.if-number-ne0.false)))
+pub slice_bounds-ask-end-in-Ok-2 : goal.slice_bounds-ask-end-in-Ok-2
+slice_bounds-ask-end-in-Ok-2 c = taken _ _ (omega (arith, c.read.auto.starts, opened_few _ _ _ _ _ (c.in-Ok.ensures {u = tt})))
 
-pub returns : goal.returns
-returns c =
-    let r = c.read-read in
-    answers-opened _ _ _ _ _ r.ensures _ c.if-number-ne0.false _ c.ask.ensures
+pub returns-in-Err : goal.returns-in-Err
+returns-in-Err c = rw c.from.ensures (answers_refused _ _ _ _ c.in-Err.refused (c.in-Err.ensures {u = tt}) c.args.question)
