@@ -1,5 +1,5 @@
 # A line for each function of a .rt file, read after `rt fmt` laid it out:
-# crate|name|public or own|method or top|requires|ensures|text of the ensures|names that it calls|file:line. A method's name is Type::name.
+# crate|name|public or own|method or top|requires|ensures|text of the ensures|names that it calls|file:line. A method's name is Type::name, of a trait's impl too.
 BEGIN { FS = "\n" }
 {
     line = $0
@@ -22,6 +22,7 @@ function row(at,    part) { part = substr(text, 1, at); return gsub(/\n/, "", pa
 function plain(s) { gsub(/[ \t\n]+/, " ", s); gsub(/\|/, "/", s); return s }
 function called(s,    out, name) {
     out = " "
+    gsub(/::<[^<>]*>/, "", s)
     while (match(s, /[A-Za-z_][A-Za-z0-9_]*(::[A-Za-z_][A-Za-z0-9_]*)*\(/)) {
         name = substr(s, RSTART, RLENGTH - 1)
         s = substr(s, RSTART + RLENGTH)
@@ -69,10 +70,12 @@ END {
         if (type != "" && at >= limit) type = ""
         rest = substr(text, at, 400)
         if (at == 1 || substr(text, at - 1, 1) ~ /[ \t\n{};]/) {
-            if (rest ~ /^impl[ \n]/) {
-                match(rest, /^impl[ \n]+[A-Za-z_][A-Za-z0-9_]*/)
-                type = substr(rest, 1, RLENGTH)
-                sub(/^impl[ \n]+/, "", type)
+            if (rest ~ /^impl[ \n<]/) {
+                type = plain(substr(rest, 5, index(rest, "{") - 5))
+                sub(/^<[^>]*>/, "", type)
+                sub(/^.* for /, "", type)
+                sub(/^ */, "", type)
+                sub(/[^A-Za-z0-9_].*/, "", type)
                 while (substr(text, at, 1) != "{") at++
                 limit = closing(at, "{", "}")
                 at++

@@ -26,7 +26,7 @@ function value(s,    n, k) {
         }
         line = substr(line, at + 1)
     }
-    if (line ~ /^impl /) { type = line; sub(/^impl +/, "", type); sub(/[^A-Za-z0-9_].*/, "", type) }
+    if (line ~ /^impl[ <]/) { type = line; sub(/^impl(<[^>]*>)? +/, "", type); sub(/^.* for /, "", type); sub(/[^A-Za-z0-9_].*/, "", type) }
     if (line ~ /^}/) type = ""
     if (type != "" && match(line, /^ +(pub )?const [A-Z0-9_]+: [a-z0-9]+ = [0-9][0-9a-zA-Z_]*;/)) {
         name = line
