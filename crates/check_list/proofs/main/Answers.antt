@@ -5,11 +5,7 @@ use Rattle.paper.specs.Laws.{prints-within}
 use Rattle.check_list.proofs.main.Goals as goal
 
 pub slice_bounds-page-end : goal.slice_bounds-page-end
-slice_bounds-page-end c =
-    let r = c.check_page-printed in
-    prints-within _ _ _ _ r.ensures r.auto.out
+slice_bounds-page-end c = prints-within _ _ _ _ (c.in-Ok.ensures {u = tt}) c.check_page.auto.out
 
 pub slice_bounds-write_all-end : goal.slice_bounds-write_all-end
-slice_bounds-write_all-end c =
-    let r = c.check_page-printed in
-    sym (length-take-le r.result.index r.new.out (prints-within _ _ _ _ r.ensures r.auto.out))
+slice_bounds-write_all-end c = sym (length-take-le c.in-Ok.size c.check_page.new.out (prints-within _ _ _ _ (c.in-Ok.ensures {u = tt}) c.check_page.auto.out))
