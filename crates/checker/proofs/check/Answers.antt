@@ -10,7 +10,7 @@ pub returns-in_err-judge_list : goal.returns-in_err-judge_list
 returns-in_err-judge_list c =
     rw (passed-on _ _ _ c.from_residual.ensures.1) (check-refused _ _ _ _ c.in_err-judge_list.ensures (λ z. omega (arith, refusal-above c.in_err-judge_list.field-0.0)))
 
-pub invariant_of-meeting : goal.invariant_of-result
+pub invariant_of-meeting : goal.invariant_of-meeting
 invariant_of-meeting c = record { listed = passes-listed _ _ _ (zero-passes _ _ _ _ c.in_ok-judge_list.ensures refl) }
 
 pub returns : goal.returns
