@@ -1,4 +1,7 @@
 -- WHICH REFUSALS A PLANNER THAT RAN GIVES: no place, and no other.
+--     ran_done              it ran where it is done
+--     ran_no_place          and where a probe has no place
+--     not_ran               and with no other refusal
 -- Assumes nothing.
 use Rattle.std.specs.Prelude.{◌≡◌, refl, ℕ, true, false}
 use Rattle.words.specs.Refused.{refusal}

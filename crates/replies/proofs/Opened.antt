@@ -1,4 +1,8 @@
--- A BOOK READ INTO THREE COLUMNS OF 256: the first n entries are there to take, and what they answer.
+-- A BOOK READ INTO THREE COLUMNS OF 256: n probes, or a refusal.
+--     opened_few            n is at most 256
+--     answers_opened        what the library answers on the first n entries is the book's answer
+--     answers_refused       the refusal is the book's answer
+--     taken                 the first n entries are n
 -- Assumes nothing.
 use Rattle.std.specs.Prelude.{◌≡◌, refl, List, ℕ, ◌≤◌, length, take, replicate}
 use Rattle.std.proofs.Common.{sym, arith, length-take-le}

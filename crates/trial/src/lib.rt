@@ -5,19 +5,17 @@
 use words::Answer;
 
 pub fn tell(given: Answer, out: &mut [u32]) {
-    if out.len() < 5 {
-        return;
+    if let [number, index, second, low, high, ..] = out {
+        *number = given.number;
+        *index = given.index;
+        *second = given.second;
+        *low = (given.tick & 0xFFFF_FFFF) as u32;
+        *high = (given.tick >> 32) as u32;
     }
-    let tick = given.tick;
-    out[0] = given.number;
-    out[1] = given.index;
-    out[2] = given.second;
-    out[3] = (tick % 4_294_967_296) as u32;
-    out[4] = (tick / 4_294_967_296) as u32;
 }
 
 pub fn trial_validate(periods: &[u32], lengths: &[u32], out: &mut [u32]) {
-    tell(table::validate(periods, lengths), out);
+    tell(Answer::from(table::validate(periods, lengths)), out);
 }
 
 pub fn trial_to_corners(
@@ -28,7 +26,8 @@ pub fn trial_to_corners(
     ys: &mut [u32],
     out: &mut [u32],
 ) {
-    tell(packing::to_corners(periods, lengths, starts, xs, ys), out);
+    let given = packing::to_corners(periods, lengths, starts, xs, ys);
+    tell(Answer::from(given), out);
 }
 
 pub fn trial_to_starts(
@@ -39,7 +38,8 @@ pub fn trial_to_starts(
     starts: &mut [u32],
     out: &mut [u32],
 ) {
-    tell(packing::to_starts(periods, lengths, xs, ys, starts), out);
+    let given = packing::to_starts(periods, lengths, xs, ys, starts);
+    tell(Answer::from(given), out);
 }
 
 pub fn trial_plan(
@@ -49,16 +49,17 @@ pub fn trial_plan(
     fills: &mut [u32],
     out: &mut [u32],
 ) {
-    tell(packing::plan(periods, lengths, starts, fills), out);
+    let given = packing::plan(periods, lengths, starts, fills);
+    tell(Answer::from(given), out);
 }
 
 pub fn trial_check(periods: &[u32], lengths: &[u32], starts: &[u32], out: &mut [u32]) {
-    tell(checker::check(periods, lengths, starts), out);
+    tell(Answer::from(checker::check(periods, lengths, starts)), out);
 }
 
 pub fn trial_holder(periods: &[u32], lengths: &[u32], starts: &[u32], tick: u64, out: &mut [u32]) {
-    let held = timetable::holder(periods, lengths, starts, tick);
-    tell(held.answer, out);
+    let given = timetable::holder(periods, lengths, starts, tick);
+    tell(Answer::from(given), out);
 }
 
 pub fn trial_next_start(
@@ -68,5 +69,6 @@ pub fn trial_next_start(
     tick: u64,
     out: &mut [u32],
 ) {
-    tell(timetable::next_start(periods, lengths, starts, tick), out);
+    let given = timetable::next_start(periods, lengths, starts, tick);
+    tell(Answer::from(given), out);
 }

@@ -1,6 +1,8 @@
 // Every public call on a book's bytes as an export on slices, for tests alone. The answer goes into `out` as in trial.
 #![tactic(auto)]
 
+use words::Answer;
+
 #[unsafe(no_mangle)]
 pub extern "C" fn trial_read(
     bytes: &[u8],
@@ -9,7 +11,8 @@ pub extern "C" fn trial_read(
     starts: &mut [u32],
     out: &mut [u32],
 ) {
-    trial::tell(book::read(bytes, periods, lengths, starts), out);
+    let given = book::read(bytes, periods, lengths, starts);
+    trial::tell(Answer::from(given), out);
 }
 
 #[unsafe(no_mangle)]
@@ -20,15 +23,16 @@ pub extern "C" fn trial_write(
     bytes: &mut [u8],
     out: &mut [u32],
 ) {
-    trial::tell(book::write(periods, lengths, starts, bytes), out);
+    let given = book::write(periods, lengths, starts, bytes);
+    trial::tell(Answer::from(given), out);
 }
 
 #[unsafe(no_mangle)]
 pub extern "C" fn trial_plan_page(book: &[u8], page: &mut [u8], out: &mut [u32]) {
-    trial::tell(pages::plan_page(book, page), out);
+    trial::tell(Answer::from(pages::plan_page(book, page)), out);
 }
 
 #[unsafe(no_mangle)]
 pub extern "C" fn trial_check_page(book: &[u8], page: &mut [u8], out: &mut [u32]) {
-    trial::tell(pages::check_page(book, page), out);
+    trial::tell(Answer::from(pages::check_page(book, page)), out);
 }
