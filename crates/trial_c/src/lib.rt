@@ -1,9 +1,11 @@
-// The calls of trial as exports on slices, for tests and benchmarks alone.
+// Every public call on columns as an export on slices alone, for tests and benchmarks. The answer goes into `out` as in trial.
 #![tactic(auto)]
+
+use words::Answer;
 
 #[unsafe(no_mangle)]
 pub extern "C" fn trial_validate(periods: &[u32], lengths: &[u32], out: &mut [u32]) {
-    trial::trial_validate(periods, lengths, out);
+    trial::tell(Answer::from(table::validate(periods, lengths)), out);
 }
 
 #[unsafe(no_mangle)]
@@ -15,7 +17,8 @@ pub extern "C" fn trial_to_corners(
     ys: &mut [u32],
     out: &mut [u32],
 ) {
-    trial::trial_to_corners(periods, lengths, starts, xs, ys, out);
+    let given = packing::to_corners(periods, lengths, starts, xs, ys);
+    trial::tell(Answer::from(given), out);
 }
 
 #[unsafe(no_mangle)]
@@ -27,7 +30,8 @@ pub extern "C" fn trial_to_starts(
     starts: &mut [u32],
     out: &mut [u32],
 ) {
-    trial::trial_to_starts(periods, lengths, xs, ys, starts, out);
+    let given = packing::to_starts(periods, lengths, xs, ys, starts);
+    trial::tell(Answer::from(given), out);
 }
 
 #[unsafe(no_mangle)]
@@ -38,12 +42,13 @@ pub extern "C" fn trial_plan(
     fills: &mut [u32],
     out: &mut [u32],
 ) {
-    trial::trial_plan(periods, lengths, starts, fills, out);
+    let given = packing::plan(periods, lengths, starts, fills);
+    trial::tell(Answer::from(given), out);
 }
 
 #[unsafe(no_mangle)]
 pub extern "C" fn trial_check(periods: &[u32], lengths: &[u32], starts: &[u32], out: &mut [u32]) {
-    trial::trial_check(periods, lengths, starts, out);
+    trial::tell(Answer::from(checker::check(periods, lengths, starts)), out);
 }
 
 #[unsafe(no_mangle)]
@@ -54,7 +59,8 @@ pub extern "C" fn trial_holder(
     tick: u64,
     out: &mut [u32],
 ) {
-    trial::trial_holder(periods, lengths, starts, tick, out);
+    let given = timetable::holder(periods, lengths, starts, tick);
+    trial::tell(Answer::from(given), out);
 }
 
 #[unsafe(no_mangle)]
@@ -65,5 +71,6 @@ pub extern "C" fn trial_next_start(
     tick: u64,
     out: &mut [u32],
 ) {
-    trial::trial_next_start(periods, lengths, starts, tick, out);
+    let given = timetable::next_start(periods, lengths, starts, tick);
+    trial::tell(Answer::from(given), out);
 }
