@@ -9,7 +9,7 @@ use Rattle.words.specs.declared.Answer.{Answer}
 use Rattle.words.specs.declared.refusals.Refusal.{Refusal}
 use Rattle.words.specs.Answers.{refused, named}
 use Rattle.words.specs.Refused.{refusal}
-use Rattle.words.proofs.Refused.{refusal-above}
+use Rattle.words.proofs.Refused.{refusal-not-done}
 use Rattle.sheets.specs.Layout.{first_edition}
 use Rattle.sheets.proofs.BlocksLaws.{judged-n}
 use Rattle.volumes.specs.Reading.{bad_size, judged_blocks, n_of, column, columns, ShortColumn, Reads}
@@ -18,7 +18,7 @@ use Rattle.volumes.specs.ReadLaws.{reads_as, read-block, read_short, read_done, 
 module _ (bs Ts ps ss : List ℕ) (size : bad_size first_edition bs ≡ false) where
   pub block_refused : (r : Refusal) → refusal r ≡ judged_blocks first_edition bs → Reads first_edition bs Ts ps ss (columns (refusal r) Ts ps ss)
   block_refused r e =
-      reads_as first_edition bs Ts ps ss _ (read-block first_edition bs Ts ps ss size (refusal r) e (λ z. omega (arith, refusal-above r)))
+      reads_as first_edition bs Ts ps ss _ (read-block first_edition bs Ts ps ss size (refusal r) e (refusal-not-done r))
 
   module _ (n : ℕ) (right : named n ≡ judged_blocks first_edition bs) where
     done-n : named n ≡ refused 0 (n_of bs)

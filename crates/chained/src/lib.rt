@@ -11,7 +11,7 @@ ghost use Rattle.probes.specs.Seen.{most_chained, Seen, Clashes};
 
 use arrayvec::ArrayVec;
 
-// The different periods that a search has met, in an array of so many places.
+// The different periods that a search has met: a limit alone, they stand in an ArrayVec.
 #[derive(Drop)]
 pub struct Kept {}
 

@@ -1,16 +1,27 @@
 // The text of a table that is planned.
 #![tactic(auto)]
 
-ghost use Rattle.std.specs.Prelude.{◌++◌, ◌+◌, ◌≤◌, length};
+ghost use Rattle.std.specs.Prelude.{◌≡◌, ◌++◌, ◌+◌, ◌≤◌, length};
+ghost use Rattle.words.specs.Refused.{shown};
 ghost use Rattle.probes.specs.Table.{most_probes, rows};
 ghost use Rattle.text.specs.Printing.{Puts};
 ghost use Rattle.lines.specs.Lines.{head_line, probe_lines};
-ghost use Rattle.paper.specs.Printed.{plan_text, planned_in};
+ghost use Rattle.paper.specs.Printed.{ran, plan_text, planned_in};
 ghost use Rattle.paper.specs.Paper.{most_plan};
 
 use table::Table;
 use text::Printer;
 use words::{Answer, Refusal};
+
+// Whether the planner ran: it is done, or came to a probe with no place.
+fn ran(planned: Result<(), Refusal>) -> bool
+    ensures { result ≡ ran (shown planned).number }
+{
+    match planned {
+        Ok(()) => true,
+        Err(refused) => matches!(refused, Refusal::NoPlace(_)),
+    }
+}
 
 // The lines of a planned table: number, n and H, and then its probes.
 #[tactic(auto, using(text::specs::Printing::puts_length))]
@@ -36,11 +47,11 @@ pub fn put_plan(printer: &mut Printer, periods: &[u32], lengths: &[u32])
 {
     let mut starts = [0u32; Table::PROBES];
     let mut fills = [0u32; Table::ROWS as usize];
-    match packing::plan(periods, lengths, &mut starts, &mut fills) {
-        Ok(()) => put_table(printer, 0, periods, lengths, &starts),
-        Err(refused) => match refused {
-            Refusal::NoPlace(_) => put_table(printer, 8, periods, lengths, &starts),
-            _ => first_lines::put_answer(printer, Answer::from(refused)),
-        },
+    let planned = packing::plan(periods, lengths, &mut starts, &mut fills);
+    let shown = Answer::from(planned);
+    if ran(planned) {
+        put_table(printer, shown.number, periods, lengths, &starts);
+    } else {
+        first_lines::put_answer(printer, shown);
     }
 }

@@ -40,9 +40,8 @@ pub fn put_sums(block: &mut [u8])
     requires { length block.old ≡ block_bytes }
     ensures { block.new ≡ sets block.old sum_place (sums_of (take sum_place block.old)) }
 {
-    let summed = sums::summed(block);
-    let sum = sums::byte_sum(summed);
-    let sum2 = sums::place_sum(summed);
+    let sum = sums::byte_sum(block);
+    let sum2 = sums::place_sum(block);
     put_number::<4>(block, Book::SUMS, sum as usize);
     put_number::<4>(block, Book::SUMS2, sum2 as usize);
 }

@@ -21,9 +21,8 @@ pub enum Fault {
 fn wrong_sum(block: &[u8; Book::BLOCK]) -> bool
     ensures { result ≡ wrong_sum block.now }
 {
-    let summed = sums::summed(block);
-    edition::number::<4>(block, Book::SUMS) != sums::byte_sum(summed)
-        || edition::number::<4>(block, Book::SUMS2) != sums::place_sum(summed)
+    edition::number::<4>(block, Book::SUMS) != sums::byte_sum(block)
+        || edition::number::<4>(block, Book::SUMS2) != sums::place_sum(block)
 }
 
 // 22: n is above 256, or a field of bytes 0 to 11 is not what the size and n require.
@@ -49,7 +48,7 @@ fn used_unused(block: &[u8; Book::BLOCK], n: usize, b: usize) -> bool
     ensures { result ≡ used_unused first_edition n b block.now }
 {
     let used = Book::HEAD + edition::records_of(n, b) * Book::RECORD;
-    !sums::all_zero(&sums::summed(block)[used..])
+    !sums::all_zero(block, used)
 }
 
 // The first fault that block b of a book of n probes has.

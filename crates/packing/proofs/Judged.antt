@@ -13,7 +13,7 @@ use Rattle.words.specs.declared.Answer.{Answer}
 use Rattle.words.specs.Answers.{refused, done}
 use Rattle.words.specs.Refused.{refusal}
 use Rattle.words.specs.declared.refusals.Refusal.{Refusal}
-use Rattle.words.proofs.Refused.{refusal-above}
+use Rattle.words.proofs.Refused.{refusal-not-done}
 use Rattle.probes.specs.Table.{rows}
 use Rattle.probes.specs.Verdict.{verdict}
 use Rattle.probes.specs.Laws.{Soundness}
@@ -26,7 +26,7 @@ use Rattle.rectangles.specs.Ends.{PlanReady, plan-ready, plan-refused-end, plan-
 
 module _ (Ts ps ss fs : List ℕ) where
   pub refused_first : (r : Refusal) → refusal r ≡ verdict Ts ps → refusal r ≡ first_of (plan_findings Ts ps ss fs) refused done
-  refused_first r e = plan-refused Ts ps ss fs (refusal r) e (λ z. omega (arith, refusal-above r))
+  refused_first r e = plan-refused Ts ps ss fs (refusal r) e (refusal-not-done r)
 
   module _ (e : done ≡ verdict Ts ps) where
     pub short_starts : length ss < length Ts → refused 7 0 ≡ first_of (plan_findings Ts ps ss fs) refused done
@@ -46,7 +46,7 @@ module _ (Ts ps ss fs : List ℕ) where
       sound = sound-gives Ts ps ready.sound
 
   pub refused_plan : (r : Refusal) → refusal r ≡ first_of (plan_findings Ts ps ss fs) refused done → Plans Ts ps ss fs (outcome (refusal r) ss fs)
-  refused_plan r e = plan-refused-end Ts ps ss fs (refusal r) e (λ z. omega (arith, refusal-above r))
+  refused_plan r e = plan-refused-end Ts ps ss fs (refusal r) e (refusal-not-done r)
 
   pub ended_plan : (m k : ℕ) (a : Answer) (zs gs cs : List ℕ) → done ≡ first_of (plan_findings Ts ps ss fs) refused done → m ≡ rows Ts → k ≡ rows Ts → cs ≡ replicate k 0
       → outcome a zs gs ≡ fitted Ts ps (order Ts ps) ss cs → Plans Ts ps ss fs (outcome a zs (gs ++ drop m fs))

@@ -2,13 +2,13 @@
 --     shortest_by_reduce, longest_by_fold                   the least and the longest period
 --     bad-period-at, bad-length-at, late-at     the lowest place at which 3, 4 and 9 apply
 -- Assumes nothing.
-use Rattle.std.specs.Prelude.{◌≡◌, refl, Bool, true, false, List, [], ◌∷◌, ℕ, zero, suc, ◌≤◌, ◌<◌, min, max, eqb, ltb, leb, ◌||◌, Option, length, fold, zip, position}
+use Rattle.std.specs.Prelude.{◌≡◌, refl, Bool, true, false, List, [], ◌∷◌, ℕ, zero, suc, ◌≤◌, ◌<◌, min, max, eqb, ltb, leb, ◌||◌, Option, Some, None, length, fold, zip, position}
 use Rattle.std.proofs.Common.{◌∙◌, ap, arith, get_or}
 use Rattle.std.specs.List.{reduce}
 use Rattle.std.specs.Option.{unwrap_or}
 use Rattle.lists.specs.Pick.{either}
-use Rattle.lists.specs.Lowest.{FirstAt}
-use Rattle.lists.proofs.Searches.{first-at}
+use Rattle.lists.specs.Lowest.{FirstAt, lowest}
+use Rattle.lists.proofs.Searches.{first-at, found-at, none-at}
 use Rattle.words.specs.Ticks.{most_period}
 use Rattle.probes.specs.Columns.{shortest, longest, least_of, greatest_of, bad_period, bad_length, late}
 
@@ -66,3 +66,17 @@ unfolding late
 late-at Ts ss r h e =
     let found : FirstAt (late Ts ss) (length (zip Ts ss)) r = first-at (λ (x : ℕ × ℕ). leb x.0 x.1) (0, 0) (zip Ts ss) (late Ts ss) (λ k b. late-zipped Ts ss k h (rw (length-zip Ts ss h) at b)) r e in
     rw (length-zip Ts ss h) at found
+
+-- a search that found one, or none, in 01's words
+pub no-bad-period : (Ts : List ℕ) (r : Option ℕ) → r ≡ position (λ t. ltb t 1 || ltb most_period t) Ts → r ≡ None → length Ts ≤ lowest (bad_period Ts) (length Ts)
+no-bad-period Ts r e n = none-at (bad_period Ts) _ r (bad-period-at Ts r e) n
+
+pub no-bad-length : (Ts ps : List ℕ) (w : ℕ) (r : Option ℕ) → w ≡ shortest Ts → length Ts ≡ length ps → r ≡ position (λ p. eqb p 0 || ltb w p) ps → r ≡ None
+    → length Ts ≤ lowest (bad_length (shortest Ts) ps) (length Ts)
+no-bad-length Ts ps w r f same e n = none-at (bad_length (shortest Ts) ps) _ r (bad-lengths-at Ts ps w r f same e) n
+
+pub late-found : (Ts ss : List ℕ) (r : Option ℕ) (i : ℕ) → length Ts ≤ length ss → r ≡ position (λ x. leb x.0 x.1) (zip Ts ss) → r ≡ Some i → (i < length Ts) × (i ≡ lowest (late Ts ss) (length Ts))
+late-found Ts ss r i h e f = found-at (late Ts ss) _ r i (late-at Ts ss r h e) f
+
+pub late-none : (Ts ss : List ℕ) (r : Option ℕ) → length Ts ≤ length ss → r ≡ position (λ x. leb x.0 x.1) (zip Ts ss) → r ≡ None → length Ts ≤ lowest (late Ts ss) (length Ts)
+late-none Ts ss r h e n = none-at (late Ts ss) _ r (late-at Ts ss r h e) n

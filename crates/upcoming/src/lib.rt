@@ -1,8 +1,9 @@
 // When the next read starts, of a sound table and list, clean or not.
 #![tactic(auto)]
 
-ghost use Rattle.std.specs.Prelude.{◌≡◌, length};
-ghost use Rattle.words.specs.Refused.{shown_next, next_shown};
+ghost use Rattle.std.specs.Prelude.{◌≡◌, ◌<◌, length, IfSome};
+ghost use Rattle.words.specs.Answers.{mark};
+ghost use Rattle.words.specs.Refused.{shown_next, next_shown, NextNamed};
 ghost use Rattle.hours.specs.Timetable.{next_of, NextFrom};
 ghost use Rattle.hours.specs.Asking.{Timed};
 
@@ -13,14 +14,14 @@ use words::{NextStart, Refusal};
 // The least start from the tick on, with the lowest such probe.
 fn soonest(periods: &[u32], starts: &[u32], tick: u64) -> Option<NextStart>
     requires { Timed periods.now starts.now tick }
-    ensures { next_shown result ≡ next_of periods.now starts.now tick (length periods.now) }
+    ensures next { next_shown result ≡ next_of periods.now starts.now tick (length periods.now) }
+    ensures named { IfSome result (λ next. next.probe < mark) }
 {
     let mut best: Option<NextStart> = None;
     for k in 0..periods.len() {
-        let tick = first_from(periods[k], starts[k], tick);
         let next = NextStart {
             probe: k as u32,
-            tick,
+            tick: first_from(periods[k], starts[k], tick),
         };
         match best {
             Some(first) if first.tick <= next.tick => {}
@@ -37,7 +38,8 @@ pub fn next_start(
     starts: &[u32],
     tick: u64,
 ) -> Result<Option<NextStart>, Refusal>
-    ensures { NextFrom periods.now lengths.now starts.now tick (shown_next result) }
+    ensures next { NextFrom periods.now lengths.now starts.now tick (shown_next result) }
+    ensures named { NextNamed result }
 {
     judge(periods, lengths, starts, tick)?;
     Ok(soonest(periods, starts, tick))

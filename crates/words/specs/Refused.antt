@@ -1,9 +1,10 @@
 -- REFUSALS. Document 01, "Numbers the master shows" and the reading rules: the number of each refusal, and what it names.
 --     refusal r          the answer of a refusal
 --     shown, shown_number, shown_held, shown_next     .. of a call that is done with nothing to name, a number, the probe that holds a tick or the mark, the next start or the mark
+--     HeldNamed r, NextNamed r     the probe that such a result names is below the mark
 --     answered f r       the answer of a call that is done with x, f x, or refused
 -- Assumes nothing.
-use Rattle.std.specs.Prelude.{ℕ, Result, Ok, Err, Option, Some, None}
+use Rattle.std.specs.Prelude.{ℕ, ◌<◌, Result, Ok, Err, IfOk, Option, Some, None, IfSome}
 use Rattle.words.specs.declared.Answer.{Answer}
 use Rattle.words.specs.Answers.{pair, refused, named, done, mark}
 use Rattle.words.specs.declared.Held.{Held}
@@ -53,3 +54,10 @@ next_shown (Some n) = pair 0 n.probe 0 n.tick
 
 abbrev pub shown_next : Result (Option NextStart) Refusal → Answer
 shown_next r = answered next_shown r
+
+-- the probe that is named is a probe's number, and not the mark
+abbrev pub HeldNamed : Result (Option Held) Refusal → Type 0
+HeldNamed r = IfOk r (λ o. IfSome o (λ h. h.probe < mark))
+
+abbrev pub NextNamed : Result (Option NextStart) Refusal → Type 0
+NextNamed r = IfOk r (λ o. IfSome o (λ n. n.probe < mark))

@@ -1,4 +1,4 @@
-// The words that every crate shares: an answer, its mark, the last tick that may be asked about and the longest period.
+// The words that every crate shares: a refusal and what a call answers beside it, an answer as the master is shown it, the last tick that may be asked about and the longest period.
 #![tactic(auto)]
 
 ghost use Rattle.std.specs.Prelude.{◌≡◌};
@@ -48,7 +48,7 @@ impl Answer {
     pub fn named(index: u32) -> Self
         ensures { result ≡ named index }
     {
-        Answer::refused(0, index)
+        Answer::pair(0, index, 0, 0)
     }
 
     pub fn pair(number: u32, index: u32, second: u32, tick: u64) -> Self

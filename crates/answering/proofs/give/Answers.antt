@@ -1,10 +1,9 @@
 use native.Mathlib.Omega.{arith}
-use borrow.Author.Rules.{rules}
 use Rattle.exports.specs.Laws.{exports-short, exports-long}
 use Rattle.answering.proofs.give.Goals as goal
 
 pub returns-then-answer-lt-BYTES : goal.returns-then-answer-lt-BYTES
-returns-then-answer-lt-BYTES c = exports-short _ _ _ c.if-answer-lt-BYTES.true
+returns-then-answer-lt-BYTES c = rw c.from.ensures (exports-short _ _ _ c.if-answer-lt-BYTES.true)
 
 pub returns : goal.returns
 returns c =

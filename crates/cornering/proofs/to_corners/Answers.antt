@@ -1,6 +1,6 @@
 -- `packing::to_corners` meets its promise: the judge, and then the corners of all starts. Assumes nothing.
 use Rattle.std.proofs.Common.{refl, arith}
-use Rattle.words.proofs.Refused.{refusal-above, passed-on}
+use Rattle.words.proofs.Refused.{refusal-not-done, passed-on}
 use Rattle.probes.proofs.Laws.{sound-gives}
 use Rattle.rectangles.specs.Ends.{corners-ready, corners-refused-end, corners-end}
 use Rattle.cornering.proofs.to_corners.Goals as goal
@@ -8,7 +8,7 @@ use Rattle.cornering.proofs.to_corners.Goals as goal
 pub returns-in_err-corners_judged : goal.returns-in_err-corners_judged
 returns-in_err-corners_judged c =
     rw (passed-on _ _ _ c.from_residual.ensures.1)
-    (corners-refused-end _ _ _ _ _ _ c.in_err-corners_judged.ensures (λ z. omega (arith, refusal-above c.in_err-corners_judged.field-0.0)))
+    (corners-refused-end _ _ _ _ _ _ c.in_err-corners_judged.ensures (refusal-not-done c.in_err-corners_judged.field-0.0))
 
 pub of-requires : goal.of-requires
 of-requires c =

@@ -1,7 +1,7 @@
 -- `starting::starts_judged` meets its contract: each way out is a way of crate admitting, specs/Ways. Assumes nothing.
 use Rattle.std.proofs.Common.{refl, ◌∙◌, arith}
 use Rattle.lists.proofs.Searches.{found-at, none-at}
-use Rattle.words.proofs.Refused.{refusal-above, passed-on}
+use Rattle.words.proofs.Refused.{refusal-not-done, passed-on}
 use Rattle.probes.proofs.Laws.{sound-gives}
 use Rattle.probes.proofs.Composing.{zero-sound}
 use Rattle.chain.specs.Grid.{off_grid}
@@ -18,7 +18,7 @@ returns-then-n-xs c = elim c.then-n-xs.branch [
 pub returns-in_err-judge : goal.returns-in_err-judge
 returns-in_err-judge c =
     passed-on _ _ _ c.from_residual.ensures.1
-    ∙ starts-refused _ _ _ _ _ c.if-n-xs.false c.if-n-ys.false _ c.in_err-judge.ensures (λ z. omega (arith, refusal-above c.in_err-judge.field-0.0))
+    ∙ starts-refused _ _ _ _ _ c.if-n-xs.false c.if-n-ys.false _ c.in_err-judge.ensures (refusal-not-done c.in_err-judge.field-0.0)
 
 pub returns-then-starts-n : goal.returns-then-starts-n
 returns-then-starts-n c = starts-short _ _ _ _ _ c.if-n-xs.false c.if-n-ys.false _ c.in_ok-judge.ensures refl c.if-starts-n.true

@@ -1,6 +1,6 @@
 -- `packing::to_starts` meets its promise: the judge, and then the starts of all corners. Assumes nothing.
 use Rattle.std.proofs.Common.{refl, arith}
-use Rattle.words.proofs.Refused.{refusal-above, passed-on}
+use Rattle.words.proofs.Refused.{refusal-not-done, passed-on}
 use Rattle.probes.proofs.Laws.{sound-gives}
 use Rattle.rectangles.specs.Ends.{starts-ready, starts-refused-end, starts-end}
 use Rattle.starting.proofs.to_starts.Goals as goal
@@ -8,7 +8,7 @@ use Rattle.starting.proofs.to_starts.Goals as goal
 pub returns-in_err-starts_judged : goal.returns-in_err-starts_judged
 returns-in_err-starts_judged c =
     rw (passed-on _ _ _ c.from_residual.ensures.1)
-    (starts-refused-end _ _ _ _ _ _ c.in_err-starts_judged.ensures (λ z. omega (arith, refusal-above c.in_err-starts_judged.field-0.0)))
+    (starts-refused-end _ _ _ _ _ _ c.in_err-starts_judged.ensures (refusal-not-done c.in_err-starts_judged.field-0.0))
 
 pub of-requires : goal.of-requires
 of-requires c =

@@ -5,7 +5,7 @@ use Rattle.table.specs.declared.Table.{Table}
 use Rattle.probes.specs.Table.{shortest, longest, rows}
 use Rattle.probes.specs.Verdict.{bad_period, bad_length, unchained}
 use Rattle.probes.specs.Ways.{in-range, way-differ, way-many, way-period, way-length, way-chain, way-rows, way-done}
-use Rattle.probes.proofs.Folding.{bad-period-at, bad-lengths-at}
+use Rattle.probes.proofs.Folding.{bad-period-at, bad-lengths-at, no-bad-period, no-bad-length}
 use Rattle.table.proofs.judge.Goals as goal
 
 shortest-of : (Ts : List ℕ) (t : Table) → t ≡ record { shortest = shortest Ts; longest = longest Ts; rows = rows Ts } → t.shortest ≡ shortest Ts
@@ -24,32 +24,32 @@ returns-in-Some c =
 
 pub returns-in-Some-bad_length : goal.returns-in-Some-bad_length
 returns-in-Some-bad_length c =
-    let range = none-at (bad_period c.args.periods.now) _ _ (bad-period-at _ _ c.bad_period.ensures) c.in_default.is in
+    let range = no-bad-period _ _ c.bad_period.ensures c.in_default.is in
     let at = found-at (bad_length (shortest c.args.periods.now) c.args.lengths.now) _ _ _ (bad-lengths-at _ _ _ _ (shortest-of _ _ c.of-table.ensures) c.if-periods-lengths.false c.bad_length.ensures) c.in-Some-bad_length.is in
     way-length _ _ (omega arith) (omega arith) range _ at.1 at.0
 
 pub unchained-requires : goal.unchained-requires
-unchained-requires c = in-range _ (none-at (bad_period c.args.periods.now) _ _ (bad-period-at _ _ c.bad_period.ensures) c.in_default.is)
+unchained-requires c = in-range _ (no-bad-period _ _ c.bad_period.ensures c.in_default.is)
 
 pub returns-in-Some-unchained : goal.returns-in-Some-unchained
 returns-in-Some-unchained c =
-    let range = none-at (bad_period c.args.periods.now) _ _ (bad-period-at _ _ c.bad_period.ensures) c.in_default.is in
-    let lengths = none-at (bad_length (shortest c.args.periods.now) c.args.lengths.now) _ _ (bad-lengths-at _ _ _ _ (shortest-of _ _ c.of-table.ensures) c.if-periods-lengths.false c.bad_length.ensures) c.in_default-bad_length.is in
+    let range = no-bad-period _ _ c.bad_period.ensures c.in_default.is in
+    let lengths = no-bad-length _ _ _ _ (shortest-of _ _ c.of-table.ensures) c.if-periods-lengths.false c.bad_length.ensures c.in_default-bad_length.is in
     let at = found-at (unchained c.args.periods.now) _ _ _ c.unchained.ensures c.in-Some-unchained.is in
     way-chain _ _ (omega arith) (omega arith) range lengths _ at.1 at.0
 
 pub returns-then-table-gt-ROWS : goal.returns-then-table-gt-ROWS
 returns-then-table-gt-ROWS c =
-    let range = none-at (bad_period c.args.periods.now) _ _ (bad-period-at _ _ c.bad_period.ensures) c.in_default.is in
-    let lengths = none-at (bad_length (shortest c.args.periods.now) c.args.lengths.now) _ _ (bad-lengths-at _ _ _ _ (shortest-of _ _ c.of-table.ensures) c.if-periods-lengths.false c.bad_length.ensures) c.in_default-bad_length.is in
+    let range = no-bad-period _ _ c.bad_period.ensures c.in_default.is in
+    let lengths = no-bad-length _ _ _ _ (shortest-of _ _ c.of-table.ensures) c.if-periods-lengths.false c.bad_length.ensures c.in_default-bad_length.is in
     let chain = none-at (unchained c.args.periods.now) _ _ c.unchained.ensures c.in_default-unchained.is in
     let h = ap (λ (t : Table). t.rows) c.of-table.ensures in
     way-rows _ _ (omega arith) (omega arith) range lengths chain (omega arith)
 
 pub returns : goal.returns
 returns c =
-    let range = none-at (bad_period c.args.periods.now) _ _ (bad-period-at _ _ c.bad_period.ensures) c.in_default.is in
-    let lengths = none-at (bad_length (shortest c.args.periods.now) c.args.lengths.now) _ _ (bad-lengths-at _ _ _ _ (shortest-of _ _ c.of-table.ensures) c.if-periods-lengths.false c.bad_length.ensures) c.in_default-bad_length.is in
+    let range = no-bad-period _ _ c.bad_period.ensures c.in_default.is in
+    let lengths = no-bad-length _ _ _ _ (shortest-of _ _ c.of-table.ensures) c.if-periods-lengths.false c.bad_length.ensures c.in_default-bad_length.is in
     let chain = none-at (unchained c.args.periods.now) _ _ c.unchained.ensures c.in_default-unchained.is in
     let h = ap (λ (t : Table). t.rows) c.of-table.ensures in
     way-done _ _ (omega arith) (omega arith) range lengths chain (omega arith)

@@ -1,9 +1,9 @@
 -- `table::judge_list` meets its contract: the ways out of crate probes, proofs/Composing. Assumes nothing.
 use Rattle.std.proofs.Common.{refl, arith, ◌∙◌}
 use Rattle.lists.proofs.Searches.{found-at, none-at}
-use Rattle.words.proofs.Refused.{refusal-above, passed-on}
+use Rattle.words.proofs.Refused.{refusal-not-done, passed-on}
 use Rattle.probes.specs.Verdict.{late}
-use Rattle.probes.proofs.Folding.{late-at}
+use Rattle.probes.proofs.Folding.{late-found, late-none}
 use Rattle.probes.proofs.Laws.{sound-gives}
 use Rattle.probes.proofs.Composing.{list_differ, list-refused, list-late, list_done, zero-sound}
 use Rattle.table.proofs.judge_list.Goals as goal
@@ -14,20 +14,20 @@ returns-then-periods-starts c = list_differ _ _ _ c.if-periods-starts.true
 pub returns-in_err-judge : goal.returns-in_err-judge
 returns-in_err-judge c =
     passed-on _ _ _ c.from_residual.ensures.1
-    ∙ list-refused _ _ _ c.if-periods-starts.false _ c.in_err-judge.ensures (λ z. omega (arith, refusal-above c.in_err-judge.field-0.0))
+    ∙ list-refused _ _ _ c.if-periods-starts.false _ c.in_err-judge.ensures (refusal-not-done c.in_err-judge.field-0.0)
 
 pub overflow_cast-result : goal.overflow_cast-result
 overflow_cast-result c =
     let s = sound-gives _ _ (zero-sound _ _ _ c.in_ok-judge.ensures refl) in
-    let at = found-at (late c.args.periods.now c.args.starts.now) _ _ _ (late-at _ _ _ (omega arith) c.late.ensures) c.in-Some.is in
+    let at = late-found c.args.periods.now c.args.starts.now _ _ (omega arith) c.late.ensures c.in-Some.is in
     omega (arith, s.few, at.0)
 
 pub returns-in-Some : goal.returns-in-Some
 returns-in-Some c =
-    let at = found-at (late c.args.periods.now c.args.starts.now) _ _ _ (late-at _ _ _ (omega arith) c.late.ensures) c.in-Some.is in
+    let at = late-found c.args.periods.now c.args.starts.now _ _ (omega arith) c.late.ensures c.in-Some.is in
     list-late _ _ _ c.if-periods-starts.false _ _ c.in_ok-judge.ensures refl at.1 at.0
 
 pub returns-in-None : goal.returns-in-None
 returns-in-None c =
-    let none = none-at (late c.args.periods.now c.args.starts.now) _ _ (late-at _ _ _ (omega arith) c.late.ensures) c.in-None.is in
+    let none = late-none c.args.periods.now c.args.starts.now _ (omega arith) c.late.ensures c.in-None.is in
     list_done _ _ _ c.if-periods-starts.false _ _ c.in_ok-judge.ensures refl refl none

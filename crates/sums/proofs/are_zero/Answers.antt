@@ -1,11 +1,11 @@
--- `sums::all_zero` meets its contract: what the library's `all` says, byte by byte. Assumes nothing.
+-- `sums::are_zero` meets its contract: what the library's `all` says, byte by byte. Assumes nothing.
 use Rattle.std.specs.Prelude.{◌≡◌, refl, Bool, true, false, List, [], ◌∷◌, ℕ}
 use Rattle.std.proofs.Common.{eqb, ◌∙◌, rules, tests}
 use Rattle.std.proofs.lemmas.Iterator.{YieldsList-from_slice}
 use Rattle.std.proofs.lemmas.Iterator.Search.{all_from_yields_List}
 use Rattle.std.specs.List.{list_all}
 use Rattle.sheets.specs.Bytes.{all_zero}
-use Rattle.sums.proofs.all_zero.Goals as goal
+use Rattle.sums.proofs.are_zero.Goals as goal
 
 all-is : (bs : List ℕ) → list_all (λ b. eqb b 0) bs ≡ all_zero bs
 unfolding all_zero

@@ -1,9 +1,9 @@
--- `sums::place_sum` meets its contract: the sum so far is that of the places passed. Assumes nothing.
+-- `sums::weighted` meets its contract: the sum so far is that of the places passed. Assumes nothing.
 use Rattle.std.proofs.Common.{◌≡◌, ◌≤◌, ℕ, List, length, ◌+◌, ◌*◌, ◌<◌, refl, ap, ◌∙◌, take, get_or, arith}
 use Rattle.std.proofs.Math.Seq.{take-length}
 use Rattle.sheets.specs.Bytes.{place_sum}
 use Rattle.sheets.specs.ByteLaws.{place-next, place-part}
-use Rattle.sums.proofs.place_sum.Goals as goal
+use Rattle.sums.proofs.weighted.Goals as goal
 
 -- a byte's part of the sum
 part : (i b n : ℕ) → i < n → n ≤ 504 → b < 256 → (i + 1) * b ≤ 128520
