@@ -1,3 +1,4 @@
 pub mod Promises
 pub mod HolderLaws
 pub mod NextLaws
+pub mod Given

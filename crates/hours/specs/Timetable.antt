@@ -6,12 +6,13 @@
 --     Starts T s x             a probe of period T and start s starts a read at tick x
 --     NextStart Ts ss t a      a names the least tick from t on at which some probe starts a read, and the lowest such probe; or no start   (believe this)
 --     NextFrom Ts ps ss t a    the promise of `next_start`
+--     HolderGiven, NextGiven     the promises as a call's result says them: the answer that is shown, and a probe that is named is below the mark
 --     phase T s t              ticks since the start of the read or pause that t lies in; t is not before s
 --     candidate T s t          the first start of one probe from t on
 --     holder_of, next_of         the same, computed: one pass over the probes
 -- Edges: clean or not; the empty table answers idle, or no start; after a read's last tick the wire is free.
 -- Assumes nothing.
-use Rattle.std.specs.Prelude.{◌≡◌, ◌⊎◌, Bool, List, [], ◌∷◌, ◌++◌, ℕ, zero, suc, ◌-◌, ◌%◌, ◌≤◌, ◌<◌, leb, ltb, length, get_or}
+use Rattle.std.specs.Prelude.{◌≡◌, ◌⊎◌, Bool, List, [], ◌∷◌, ◌++◌, ℕ, zero, suc, ◌-◌, ◌%◌, ◌≤◌, ◌<◌, leb, ltb, length, get_or, Result, Option}
 use Rattle.lists.specs.Pick.{pick, both}
 use Rattle.lists.specs.Lowest.{Lowest, lowest}
 use Rattle.lists.specs.Refusals.{Line, whole, First}
@@ -19,6 +20,10 @@ use Rattle.lists.specs.Answering.{Found, tested, first_of}
 use Rattle.words.specs.declared.Answer.{Answer}
 use Rattle.words.specs.Answers.{refused, pair, mark}
 use Rattle.words.specs.Ticks.{TooLate, too_late}
+use Rattle.words.specs.declared.Held.{Held}
+use Rattle.words.specs.declared.NextStart.{NextStart as Next}
+use Rattle.words.specs.declared.refusals.Refusal.{Refusal}
+use Rattle.words.specs.Refused.{shown_held, HeldNamed, shown_next, NextNamed}
 use Rattle.wire.specs.Wire.{HoldsAt}
 use Rattle.probes.specs.Table.{widths, list_lines}
 use Rattle.probes.specs.Verdict.{list_findings}
@@ -43,6 +48,9 @@ module _ (Ts qs ss : List ℕ) (t : ℕ) where
 
 unfoldable pub Holder : List ℕ → List ℕ → List ℕ → ℕ → Answer → Type 0
 Holder Ts ps ss t a = First (ask_lines Ts ps ss t) refused (HeldBy Ts (widths 0 ps) ss t) a
+
+abbrev pub HolderGiven : List ℕ → List ℕ → List ℕ → ℕ → Result (Option Held) Refusal → Type 0
+HolderGiven Ts ps ss t r = Holder Ts ps ss t (shown_held r) × HeldNamed r
 
 unfoldable pub holder_answer : List ℕ → List ℕ → List ℕ → ℕ → Answer
 holder_answer Ts ps ss t = first_of (ask_findings Ts ps ss t) refused (holder_of Ts (widths 0 ps) ss t)
@@ -69,6 +77,9 @@ module _ (Ts ss : List ℕ) (t : ℕ) where
 
 unfoldable pub NextFrom : List ℕ → List ℕ → List ℕ → ℕ → Answer → Type 0
 NextFrom Ts ps ss t a = First (ask_lines Ts ps ss t) refused (NextStart Ts ss t) a
+
+abbrev pub NextGiven : List ℕ → List ℕ → List ℕ → ℕ → Result (Option Next) Refusal → Type 0
+NextGiven Ts ps ss t r = NextFrom Ts ps ss t (shown_next r) × NextNamed r
 
 -- "none" or a probe and its start, folded over the probes from the first
 unfoldable pub next_of : List ℕ → List ℕ → ℕ → ℕ → Answer

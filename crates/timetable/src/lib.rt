@@ -3,8 +3,7 @@
 
 ghost use Rattle.std.specs.Prelude.{length};
 ghost use Rattle.lists.specs.Lowest.{FirstAt};
-ghost use Rattle.words.specs.Refused.{shown_held, HeldNamed};
-ghost use Rattle.hours.specs.Timetable.{holds_test, Holder};
+ghost use Rattle.hours.specs.Timetable.{holds_test, HolderGiven};
 ghost use Rattle.hours.specs.Asking.{Asked};
 
 use asking::judge;
@@ -32,8 +31,7 @@ pub fn holder(
     starts: &[u32],
     tick: u64,
 ) -> Result<Option<Held>, Refusal>
-    ensures holder { Holder periods.now lengths.now starts.now tick (shown_held result) }
-    ensures named { HeldNamed result }
+    ensures { HolderGiven periods.now lengths.now starts.now tick result }
 {
     judge(periods, lengths, starts, tick)?;
     match holding(periods, lengths, starts, tick) {

@@ -3,8 +3,8 @@
 
 ghost use Rattle.std.specs.Prelude.{◌≡◌, ◌<◌, length, IfSome};
 ghost use Rattle.words.specs.Answers.{mark};
-ghost use Rattle.words.specs.Refused.{shown_next, next_shown, NextNamed};
-ghost use Rattle.hours.specs.Timetable.{next_of, NextFrom};
+ghost use Rattle.words.specs.Refused.{next_shown};
+ghost use Rattle.hours.specs.Timetable.{next_of, NextGiven};
 ghost use Rattle.hours.specs.Asking.{Timed};
 
 use asking::judge;
@@ -38,8 +38,7 @@ pub fn next_start(
     starts: &[u32],
     tick: u64,
 ) -> Result<Option<NextStart>, Refusal>
-    ensures next { NextFrom periods.now lengths.now starts.now tick (shown_next result) }
-    ensures named { NextNamed result }
+    ensures { NextGiven periods.now lengths.now starts.now tick result }
 {
     judge(periods, lengths, starts, tick)?;
     Ok(soonest(periods, starts, tick))

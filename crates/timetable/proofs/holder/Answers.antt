@@ -6,11 +6,14 @@ use Rattle.probes.proofs.Laws.{sound-gives}
 use Rattle.hours.specs.Timetable.{holds_test}
 use Rattle.hours.specs.Asking.{zero-asked}
 use Rattle.hours.proofs.HolderLaws.{holder-found, holder-idle, holder-refused, holder-done}
+use Rattle.hours.proofs.Given.{refused-named}
 use Rattle.timetable.proofs.holder.Goals as goal
 
-pub returns-in_err-judge-clause-holder : goal.returns-in_err-judge-clause-holder
-returns-in_err-judge-clause-holder c =
-    rw (passed-on _ _ _ c.from_residual.ensures.1) (holder-refused _ _ _ _ _ c.in_err-judge.ensures (refusal-not-done c.in_err-judge.field-0.0))
+pub returns-in_err-judge : goal.returns-in_err-judge
+returns-in_err-judge c = (
+  rw (passed-on _ _ _ c.from_residual.ensures.1) (holder-refused _ _ _ _ _ c.in_err-judge.ensures (refusal-not-done c.in_err-judge.field-0.0)),
+  refused-named _ _ _ c.from_residual.ensures.1,
+)
 
 pub holding-requires : goal.holding-requires
 holding-requires c = zero-asked _ _ _ _ _ c.in_ok-judge.ensures refl
@@ -20,17 +23,13 @@ overflow_cast-result c =
     let at = found-at (holds_test c.args.periods.now c.args.lengths.now c.args.starts.now c.args.tick) _ _ _ c.holding.ensures c.in-Some.is in
     omega (arith, (sound-gives _ _ (zero-asked _ _ _ _ _ c.in_ok-judge.ensures refl).sound).few, at.0)
 
-pub returns-in-Some-clause-holder : goal.returns-in-Some-clause-holder
-returns-in-Some-clause-holder c =
+pub returns-in-Some : goal.returns-in-Some
+returns-in-Some c =
     let at = found-at (holds_test c.args.periods.now c.args.lengths.now c.args.starts.now c.args.tick) _ _ _ c.holding.ensures c.in-Some.is in
-    holder-done _ _ _ _ _ _ c.in_ok-judge.ensures refl (holder-found _ _ _ _ _ at.1 at.0)
+    let few = (sound-gives _ _ (zero-asked _ _ _ _ _ c.in_ok-judge.ensures refl).sound).few in
+    (holder-done _ _ _ _ _ _ c.in_ok-judge.ensures refl (holder-found _ _ _ _ _ at.1 at.0), omega (arith, few, at.0))
 
-pub returns-in-None-clause-holder : goal.returns-in-None-clause-holder
-returns-in-None-clause-holder c =
+pub returns-in-None : goal.returns-in-None
+returns-in-None c =
     let none = none-at (holds_test c.args.periods.now c.args.lengths.now c.args.starts.now c.args.tick) _ _ c.holding.ensures c.in-None.is in
-    holder-done _ _ _ _ _ _ c.in_ok-judge.ensures refl (holder-idle _ _ _ _ _ refl none)
-
-pub returns-in-Some-clause-named : goal.returns-in-Some-clause-named
-returns-in-Some-clause-named c =
-    let at = found-at (holds_test c.args.periods.now c.args.lengths.now c.args.starts.now c.args.tick) _ _ _ c.holding.ensures c.in-Some.is in
-    omega (arith, (sound-gives _ _ (zero-asked _ _ _ _ _ c.in_ok-judge.ensures refl).sound).few, at.0)
+    (holder-done _ _ _ _ _ _ c.in_ok-judge.ensures refl (holder-idle _ _ _ _ _ refl none), tt)
