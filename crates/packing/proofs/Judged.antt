@@ -7,7 +7,6 @@
 --     refused_plan, ended_plan       how the planner then meets its promise
 -- Assumes nothing.
 use Rattle.std.specs.Prelude.{◌≡◌, refl, List, ◌++◌, ℕ, ◌≤◌, ◌<◌, length, replicate, drop}
-use Rattle.std.proofs.Common.{arith}
 use Rattle.lists.specs.Answering.{first_of}
 use Rattle.words.specs.declared.Answer.{Answer}
 use Rattle.words.specs.Answers.{refused, done}

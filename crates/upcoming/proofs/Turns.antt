@@ -4,7 +4,7 @@
 --     best-all, best-named  of all probes
 -- Assumes nothing.
 use Rattle.std.specs.Prelude.{◌≡◌, refl, List, ℕ, ◌+◌, ◌≤◌, ◌<◌, length, get_or, Option, Some, None, MatchOption, IfSome}
-use Rattle.std.proofs.Common.{arith, sym, ◌∙◌, ap}
+use Rattle.std.proofs.Common.{arith}
 use Rattle.words.specs.Answers.{pair, mark}
 use Rattle.words.specs.declared.NextStart.{NextStart}
 use Rattle.words.specs.Refused.{next_shown}

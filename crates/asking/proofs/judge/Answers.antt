@@ -1,5 +1,5 @@
 -- `asking::judge` meets its contract: the judge of a list first, then the tick. Assumes nothing.
-use Rattle.std.proofs.Common.{refl, sym, ◌∙◌, arith, ltb-true, ltb-false}
+use Rattle.std.proofs.Common.{refl, sym, ◌∙◌, ltb-true, ltb-false}
 use Rattle.words.specs.Ticks.{last_tick}
 use Rattle.words.proofs.Refused.{refusal-not-done, passed-on}
 use Rattle.hours.specs.Asking.{ask-judged, ask-late, ask-done}

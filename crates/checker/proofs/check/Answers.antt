@@ -1,5 +1,5 @@
 -- `checker::check` meets its contract: the judge of a list first, then the meeting. Assumes nothing.
-use Rattle.std.proofs.Common.{arith, refl}
+use Rattle.std.proofs.Common.{refl}
 use Rattle.words.proofs.Refused.{refusal-not-done, passed-on}
 use Rattle.pairs.specs.Range.{passes-listed}
 use Rattle.meetings.specs.Passing.{zero-passes}

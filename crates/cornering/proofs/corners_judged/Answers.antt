@@ -1,8 +1,6 @@
 -- `cornering::corners_judged` meets its contract: each way out is a way of crate admitting, specs/Ways. Assumes nothing.
 use Rattle.std.proofs.Common.{refl, ◌∙◌, arith}
-use Rattle.lists.proofs.Searches.{found-at, none-at}
 use Rattle.words.proofs.Refused.{refusal-not-done, passed-on}
-use Rattle.probes.specs.Verdict.{late}
 use Rattle.probes.proofs.Folding.{late-found, late-none}
 use Rattle.probes.proofs.Laws.{sound-gives}
 use Rattle.probes.proofs.Composing.{zero-sound}

@@ -1,8 +1,6 @@
 -- `table::judge_list` meets its contract: the ways out of crate probes, proofs/Composing. Assumes nothing.
 use Rattle.std.proofs.Common.{refl, arith, ◌∙◌}
-use Rattle.lists.proofs.Searches.{found-at, none-at}
 use Rattle.words.proofs.Refused.{refusal-not-done, passed-on}
-use Rattle.probes.specs.Verdict.{late}
 use Rattle.probes.proofs.Folding.{late-found, late-none}
 use Rattle.probes.proofs.Laws.{sound-gives}
 use Rattle.probes.proofs.Composing.{list_differ, list-refused, list-late, list_done, zero-sound}

@@ -1,5 +1,5 @@
 -- `upcoming::next_start` meets its contract: the judge first, then the next start. Assumes nothing.
-use Rattle.std.proofs.Common.{refl, arith}
+use Rattle.std.proofs.Common.{refl}
 use Rattle.words.proofs.Refused.{refusal-not-done, passed-on}
 use Rattle.hours.specs.Asking.{zero-asked, asked-timed}
 use Rattle.hours.proofs.NextLaws.{next-refused, next-done}
