@@ -32,7 +32,7 @@
  * The functions have no state, use no heap, make no system call and take no lock: they may be called again
  * before a call is over, from other threads or an interrupt, as long as the lent bytes are not the same.
  *
- * Stack: a call took at most 3,440 bytes, its return address included, when it was measured (`make stack`,
+ * Stack: a call took at most 3,328 bytes, its return address included, when it was measured (`make stack`,
  * docs/FIGURES.md); set aside LINE_STACK_BYTES. That is a measurement of this archive and not a proof. It
  * counts memset, and not what an interrupt takes. There is no recursion.
  *

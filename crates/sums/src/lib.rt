@@ -49,7 +49,7 @@ pub fn byte_sum(block: &[u8]) -> u32
     requires { length block.now ≡ block_bytes }
     ensures { result ≡ byte_sum (take sum_place block.now) }
 {
-    total(summed(block))
+    total(&block[..Book::SUMS])
 }
 
 // The sum of (place + 1) times byte over the same bytes.

@@ -9,7 +9,7 @@ pub fn tell(given: Answer, out: &mut [u32]) {
         *number = given.number;
         *index = given.index;
         *second = given.second;
-        *low = (given.tick & 0xFFFF_FFFF) as u32;
+        *low = (given.tick % (1 << 32)) as u32;
         *high = (given.tick >> 32) as u32;
     }
 }
