@@ -17,7 +17,7 @@ LOOK = [
     ("3", "a loop that counts", r"^\s*while "),
     ("3", "an index raised by hand", r"^\s*(?:i|j|k|l|b|at|row|place) [+-]= 1;"),
     ("4", "bytes and halves of a number by hand", r"4_294_967_296|% byte|/ byte|byte \*|\* high|% Book::BYTE|/ Book::BYTE"),
-    ("4", "filling, turning and comparing by hand", r"\[i\] = 0;|= 0;\s*$(?<=\] = 0;)|PLACES - 1 - i|seen\[k\] == x"),
+    ("4", "filling, turning and comparing by hand", r"\] = 0;|PLACES - 1 - i|seen\[k\] == x"),
     ("5", "periods, table and chain passed along", r"table: Table,? *(?:chain|$)|chain: Chain"),
     ("5", "bytes and the place in them passed along", r"out: &mut \[u8\], (?:at|from): usize"),
     ("5", "a list's three columns passed along", r"periods: &\[u32\], lengths: &\[u32\], starts: &\[u32\]"),
