@@ -14,6 +14,7 @@ use text::Printer;
 use words::{Answer, Refusal};
 
 // Whether the planner ran: it is done, or came to a probe with no place.
+#[tactic(auto, using(crate::proofs::Running::ran_done, crate::proofs::Running::ran_no_place, crate::proofs::Running::not_ran))]
 fn ran(planned: Result<(), Refusal>) -> bool
     ensures { result ≡ ran (shown planned).number }
 {

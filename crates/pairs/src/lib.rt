@@ -24,6 +24,15 @@ struct Pair {
 }
 
 impl Pair {
+    // The pair of two probes, of which the second has no shorter period.
+    fn of(one: Probe, other: Probe) -> Pair
+        requires { Ordered one other }
+        ensures first { result.one ≡ one }
+        ensures second { result.other ≡ other }
+    {
+        Pair { one, other }
+    }
+
     // d: the remainder of the second start less the first by the shorter period, from 0 up.
     #[tactic(auto, unfolding(wire::specs::Meeting::lag))]
     fn lag(&self) -> u32
@@ -88,32 +97,19 @@ impl<'a> List<'a> {
         }
     }
 
-    // Probes i and j.
-    fn pair(&self, i: usize, j: usize) -> Pair
-        requires i_in_bounds { i < length self.now.periods.now }
-        requires j_in_bounds { j < length self.now.periods.now }
-        ensures apart { apart_of result.one result.other ≡ apart_at self.now.periods.now self.now.lengths.now self.now.starts.now i j }
-        ensures tick { tick_of result.one result.other ≡ tick_at self.now.periods.now self.now.lengths.now self.now.starts.now i j }
-    {
-        let one = self.probe(i);
-        let other = self.probe(j);
-        if one.period <= other.period {
-            Pair { one, other }
-        } else {
-            Pair {
-                one: other,
-                other: one,
-            }
-        }
-    }
-
     // Whether probes i and j never meet: d is taken by the shorter period.
     pub fn apart_at(&self, i: usize, j: usize) -> bool
         requires i_in_bounds { i < length self.now.periods.now }
         requires j_in_bounds { j < length self.now.periods.now }
         ensures { result ≡ apart_at self.now.periods.now self.now.lengths.now self.now.starts.now i j }
     {
-        self.pair(i, j).apart()
+        let one = self.probe(i);
+        let other = self.probe(j);
+        if one.period <= other.period {
+            Pair::of(one, other).apart()
+        } else {
+            Pair::of(other, one).apart()
+        }
     }
 
     // Their first shared tick.
@@ -122,6 +118,12 @@ impl<'a> List<'a> {
         requires j_in_bounds { j < length self.now.periods.now }
         ensures { result ≡ tick_at self.now.periods.now self.now.lengths.now self.now.starts.now i j }
     {
-        self.pair(i, j).shared_tick()
+        let one = self.probe(i);
+        let other = self.probe(j);
+        if one.period <= other.period {
+            Pair::of(one, other).shared_tick()
+        } else {
+            Pair::of(other, one).shared_tick()
+        }
     }
 }

@@ -2,8 +2,8 @@
 --     seen-told, clashes-told     the tests over the kept periods
 --     Keeping Ts seen n i  the kept ones are the different periods of the first i probes, and of two one divides the other
 -- Assumes nothing.
-use Rattle.std.specs.Prelude.{◌≡◌, refl, ◌≢◌, Bool, true, false, not, ◌&&◌, List, [], ◌∷◌, ◌++◌, ℕ, ◌+◌, ◌*◌, ◌^◌, ◌%◌, ◌≤◌, ◌<◌, eqb, length, get_or}
-use Rattle.std.proofs.Common.{sym, ◌∙◌, inl, inr, add-one, arith, eq-eqb, ne_eqb}
+use Rattle.std.specs.Prelude.{◌≡◌, refl, ◌≢◌, Bool, true, false, not, ◌&&◌, List, [], ◌∷◌, ◌++◌, ℕ, ◌+◌, ◌*◌, ◌^◌, ◌%◌, ◌≤◌, ◌<◌, eqb, length, get_or, set}
+use Rattle.std.proofs.Common.{sym, ◌∙◌, inl, inr, add-one, arith, get_or-set_same, get_or-set_other, eq-eqb, ne_eqb}
 use Rattle.std.proofs.Math.Nat.{dvd_refl}
 use Rattle.std.proofs.Math.ListN.{get_or-append}
 use Rattle.std.proofs.Math.Seq.{get_or-append_seam}
@@ -160,49 +160,66 @@ module _ (Ts seen : List ℕ) (n i : ℕ) (g : Keeping Ts seen n i) where
             let r = range i (omega arith) in
             rw (same, grown-new) (omega arith, omega arith)
 
-    -- the new one behind the kept ones
-    abbrev with-new : List ℕ
-    with-new = seen ++ (get_or Ts i 0 ∷ [])
-
-    module _ (len : n ≡ length seen) where
-      new-other : (k : ℕ) → k < n → get_or with-new k 0 ≡ get_or seen k 0
-      new-other k h = get_or-append seen _ 0 k (omega (arith, len))
-
-      new-same : get_or with-new n 0 ≡ get_or Ts i 0
-      new-same = rw len (get_or-append_seam seen _ [] 0)
-
-      new_is : (k : ℕ) → k < n + 1 → get_or with-new k 0 ≡ grown k
-      new_is k h = by (dec_lt k n)
+    -- a list that has the kept ones, and behind them the new one
+    module _ (xs : List ℕ) (others : (k : ℕ) → k < n → get_or xs k 0 ≡ get_or seen k 0) (last : get_or xs n 0 ≡ get_or Ts i 0) where
+      grown_is : (k : ℕ) → k < n + 1 → get_or xs k 0 ≡ grown k
+      grown_is k h = by (dec_lt k n)
         where
-          by : Dec (k < n) → get_or with-new k 0 ≡ grown k
-          by (yes l) = new-other k l ∙ sym (grown-old k l)
+          by : Dec (k < n) → get_or xs k 0 ≡ grown k
+          by (yes l) = others k l ∙ sym (grown-old k l)
           by (no l) =
               let same : k ≡ n = omega arith in
-              rw same (new-same ∙ sym grown-new)
+              rw same (last ∙ sym grown-new)
 
-      new-mutual : Mutual (λ k. get_or with-new k 0) (n + 1)
-      new-mutual k l h m = rw (new_is k (omega arith), new_is l m) (grown-mutual k l h m)
+      longer-mutual : Mutual (λ k. get_or xs k 0) (n + 1)
+      longer-mutual k l h m = rw (grown_is k (omega arith), grown_is l m) (grown-mutual k l h m)
 
-      pub new-more : Keeping Ts with-new (n + 1) (i + 1)
-      new-more = record { kept = λ j h. old j h (dec_lt j i); from = λ k h. came k h (dec_lt k n); mutual-of = new-mutual }
+      longer-more : Keeping Ts xs (n + 1) (i + 1)
+      longer-more = record { kept = λ j h. old j h (dec_lt j i); from = λ k h. came k h (dec_lt k n); mutual-of = longer-mutual }
         where
-          old : (j : ℕ) → j < i + 1 → Dec (j < i) → Seen with-new (n + 1) (get_or Ts j 0)
+          old : (j : ℕ) → j < i + 1 → Dec (j < i) → Seen xs (n + 1) (get_or Ts j 0)
           old j h (yes l) = at (g.kept j l)
             where
-              at : Seen seen n (get_or Ts j 0) → Seen with-new (n + 1) (get_or Ts j 0)
-              at (k, hk, e) = (k, omega arith, new-other k hk ∙ e)
+              at : Seen seen n (get_or Ts j 0) → Seen xs (n + 1) (get_or Ts j 0)
+              at (k, hk, e) = (k, omega arith, others k hk ∙ e)
           old j h (no l) =
               let same : j ≡ i = omega arith in
-              rw same (n, omega arith, new-same)
+              rw same (n, omega arith, last)
 
-          came : (k : ℕ) → k < n + 1 → Dec (k < n) → (j : ℕ) × (j < i + 1) × (get_or Ts j 0 ≡ get_or with-new k 0)
+          came : (k : ℕ) → k < n + 1 → Dec (k < n) → (j : ℕ) × (j < i + 1) × (get_or Ts j 0 ≡ get_or xs k 0)
           came k h (yes l) = at (g.from k l)
             where
-              at : (j : ℕ) × (j < i) × (get_or Ts j 0 ≡ get_or seen k 0) → (j : ℕ) × (j < i + 1) × (get_or Ts j 0 ≡ get_or with-new k 0)
-              at (j, hj, e) = (j, omega arith, e ∙ sym (new-other k l))
+              at : (j : ℕ) × (j < i) × (get_or Ts j 0 ≡ get_or seen k 0) → (j : ℕ) × (j < i + 1) × (get_or Ts j 0 ≡ get_or xs k 0)
+              at (j, hj, e) = (j, omega arith, e ∙ sym (others k l))
           came k h (no l) =
               let same : k ≡ n = omega arith in
-              rw same (i, omega arith, sym new-same)
+              rw same (i, omega arith, sym last)
+
+    -- the new one set at place n of a list that is longer
+    abbrev with-new : List ℕ
+    with-new = set seen n (get_or Ts i 0)
+
+    new-same : n < length seen → get_or with-new n 0 ≡ get_or Ts i 0
+    new-same h = get_or-set_same seen n (get_or Ts i 0) 0 h
+
+    new-other : (k : ℕ) → k < n → get_or with-new k 0 ≡ get_or seen k 0
+    new-other k h = get_or-set_other seen n k (get_or Ts i 0) 0 (λ e. absurd (omega arith))
+
+    new_is : n < length seen → (k : ℕ) → k < n + 1 → get_or with-new k 0 ≡ grown k
+    new_is len = grown_is with-new new-other (new-same len)
+
+    new-mutual : n < length seen → Mutual (λ k. get_or with-new k 0) (n + 1)
+    new-mutual len = longer-mutual with-new new-other (new-same len)
+
+    pub new-more : n < length seen → Keeping Ts with-new (n + 1) (i + 1)
+    new-more len = longer-more with-new new-other (new-same len)
+
+    -- .. and pushed behind a list of n
+    abbrev pushed : List ℕ
+    pushed = seen ++ (get_or Ts i 0 ∷ [])
+
+    pub pushed-more : n ≡ length seen → Keeping Ts pushed (n + 1) (i + 1)
+    pushed-more len = longer-more pushed (λ k h. get_or-append seen _ 0 k (omega (arith, len))) (rw len (get_or-append_seam seen _ [] 0))
 
 -- the two tests of the code, over the kept periods
 pub seen-tells : (seen : List ℕ) (x : ℕ) → Tells (list_any (λ t. eqb t x) seen) (Seen seen (length seen) x)

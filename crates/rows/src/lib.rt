@@ -21,10 +21,12 @@ pub fn lowest_row(rows: &[u32], h: usize, p: u32, w: u32) -> Option<usize>
     ensures { FirstRow rows.now h p w result }
 {
     let room = w - p;
-    for y in (0..rows.len()).step_by(h) {
+    let mut y = 0;
+    for _ in 0..rows.len() / h {
         if rows[y] <= room {
             return Some(y);
         }
+        y += h;
     }
     None
 }

@@ -2,7 +2,7 @@
 use Rattle.std.proofs.Common.{arith, refl, length-append, get_or, [], ◌∷◌}
 use Rattle.lists.specs.Lowest.{searching-start, searching-next}
 use Rattle.lists.proofs.Searches.{answer-found, answer-none}
-use Rattle.probes.proofs.Seen.{keeping_start, keeping-positive, keeping-seen, seen_more, keeping-clash, keeping-new, new-room, new-more, seen-told, clashes-told}
+use Rattle.probes.proofs.Seen.{keeping_start, keeping-positive, keeping-seen, seen_more, keeping-clash, keeping-new, new-room, pushed-more, seen-told, clashes-told}
 use Rattle.chained.proofs.unchained.Goals as goal
 use Rattle.chained.proofs.unchained.Goals.{then-not-is_seen+else-clashes, else-not-is_seen}
 
@@ -36,7 +36,7 @@ loop-i-preserved c =
           let fresh = told.no w.if-not-is_seen.true in
           let fits = (clashes-told l.seen.items _ _ w.clashes.result w.deref-then-not-is_seen.ensures.0 w.clashes.ensures).no w.if-clashes.false in
           rw (w.seen-is, w.push.ensures.items, length-append l.seen.items (get_or c.args.periods.now l.i 0 ∷ []))
-          (new-more _ _ _ l.i l.invariant.0 fresh fits refl, searching-next _ _ l.i (omega arith) (keeping-new _ _ _ l.i l.invariant.0 fresh fits) l.invariant.1)
+          (pushed-more _ _ _ l.i l.invariant.0 fresh fits refl, searching-next _ _ l.i (omega arith) (keeping-new _ _ _ l.i l.invariant.0 fresh fits) l.invariant.1)
       | else-not-is_seen w ↦
           let old = told.yes w.if-not-is_seen.false in
           rw w.seen-is
