@@ -106,7 +106,7 @@ marked-long ks zs us ss ss₀ e f g = ap length e ∙ length_marked ks zs ∙ ap
 pub rows_long : (gs fs fs₀ : List ℕ) (h : ℕ) → gs ≡ fs → length fs ≡ h → length fs₀ ≡ h → length gs ≡ length fs₀
 rows_long gs fs fs₀ h e f g = ap length e ∙ f ∙ sym g
 
--- the order as the code holds it, in the first n of its places
+-- the order in the first n places of an array
 pub order-entry : (Ts ps arr : List ℕ) (k : ℕ) → take (length Ts) arr ≡ order Ts ps → k < length Ts → get_or arr k 0 ≡ get_or (order Ts ps) k 0
 order-entry Ts ps arr k e h = sym (get_or-take (length Ts) arr k 0 h) ∙ ap (λ (l : List ℕ). get_or l k 0) e
 
