@@ -22,7 +22,7 @@ pub fn lowest_row(rows: &[u32], h: usize, p: u32, w: u32) -> Option<usize>
 {
     let room = w - p;
     let mut y = 0;
-    for _ in 0..rows.len() / h {
+    while y < rows.len() {
         if rows[y] <= room {
             return Some(y);
         }
